@@ -1,0 +1,35 @@
+-- What each public call promises, on every input: its answer, and everything that it was lent to write to. The code's contracts cite
+-- these records. Assumes nothing.
+use Prim.Native.Nat.{ℕ}
+use mathlib.Core.Path.{_≡_}
+use mathlib.Core.List.{List}
+use lib.ListN.{length}
+use lib.Ieee.{Format}
+use Rattle.rules.specs.Verdict.{Verdict, fine, refuse, done-with, refusal, answer, after}
+use Rattle.rules.specs.Write.{settingsFault, bound, writeOf}
+use Rattle.rules.specs.Read.{readOf}
+use Rattle.rules.specs.Examine.{examineOf}
+use Rattle.rules.specs.declared.Answer.{Answer}
+
+-- the measuring call: the writer's rows less 15, and the room that the writer asks for as place
+abbrev pub measured : Verdict → ℕ → Answer
+measured fine n = done-with n
+measured (refuse a p) n = refusal a p
+
+unfoldable pub measureOf : Format → ℕ → List ℕ → List ℕ → Answer
+measureOf fmt s pairs vs = measured (settingsFault fmt s pairs vs) (bound fmt s (length vs))
+
+pub record Measured (fmt : Format) (values : List ℕ) (s : ℕ) (pairs : List ℕ) (r : Answer) : Type 0 where
+  pub answer-is : r ≡ measureOf fmt s pairs values
+
+-- `out` is the lent output as it came, `end` as it is left
+pub record Written (fmt : Format) (values : List ℕ) (s : ℕ) (pairs out : List ℕ) (r : Answer) (end : List ℕ) : Type 0 where
+  pub answer-is : r ≡ answer (writeOf fmt s pairs values (length out))
+  pub output-is : end ≡ after (writeOf fmt s pairs values (length out)) out
+
+pub record Read (fmt : Format) (page out : List ℕ) (r : Answer) (end : List ℕ) : Type 0 where
+  pub answer-is : r ≡ answer (readOf fmt (length out) page)
+  pub output-is : end ≡ after (readOf fmt (length out) page) out
+
+pub record Examined (fmt : Format) (page : List ℕ) (r : Answer) : Type 0 where
+  pub answer-is : r ≡ answer (examineOf fmt page)

@@ -1,0 +1,73 @@
+-- From a value to a whole number and back (document 01, "From a value to a whole number"). A value comes as its bit pattern b;
+-- the floats and their multiplication are the toolchain's reading of IEEE 754 (lib.Ieee). Assumes nothing.
+use Prim.Native.Nat.{ℕ, _*_, _^_}
+use mathlib.Core.Bool.{Bool, true, false, not, _&&_, _||_, cond}
+use mathlib.Core.Option.{Option, none, some}
+use lib.Dec.{ltb, eqb}
+use lib.IntN.{ℤ, pos, negℤ}
+use lib.Ieee.{Format, Float, nan, inf, fin, up, down, isNan, round, mul, ofInt, ofBits, toBits}
+use lib.Ieee.Nearest.{closest}
+use Rattle.rules.specs.Kind.{maxScaled}
+
+-- exponent and factor of a vector
+pub record Pair : Type 0 where
+  pub exponent : ℕ
+  pub factor : ℕ
+
+-- 10^k, and the float of the kind nearest to 10^-k. That the first is exact and the second nearest is a theorem (theorems/Powers)
+unfoldable pub power : Format → ℕ → Float
+power fmt k = round fmt false (10 ^ k) 1
+
+unfoldable pub negPower : Format → ℕ → Float
+negPower fmt k = round fmt false 1 (10 ^ k)
+
+-- scaled value: the value times 10^e, then times 10^-f; two multiplications, each rounded once to nearest, ties to even
+unfoldable pub scaled : Format → Pair → Float → Float
+scaled fmt p x = mul fmt (mul fmt x (power fmt (p .exponent))) (negPower fmt (p .factor))
+
+abbrev pub signed : Bool → ℕ → ℤ
+signed true n = negℤ (pos n)
+signed false n = pos n
+
+-- whole number: the scaled value rounded to the nearest whole number, ties to even (0 where there is none: such a value is an exception)
+unfoldable pub whole : Float → ℤ
+whole nan = pos 0
+whole (inf s) = pos 0
+whole (fin s m e) = signed s (closest (m * up e) (down e))
+
+-- back: the whole number as the nearest float of the kind, times 10^f, then times 10^-e, each rounded once; its bits
+unfoldable pub back : Format → Pair → ℤ → ℕ
+back fmt p z = toBits fmt (mul fmt (mul fmt (ofInt fmt z) (power fmt (p .factor))) (negPower fmt (p .exponent)))
+
+abbrev pub isInfinite : Float → Bool
+isInfinite nan = false
+isInfinite (inf s) = true
+isInfinite (fin s m e) = false
+
+abbrev pub isNegativeZero : Float → Bool
+isNegativeZero nan = false
+isNegativeZero (inf s) = false
+isNegativeZero (fin s m e) = s && eqb m 0
+
+-- infinite or of magnitude above L. (A scaled value inside the limits is a NaN only where the value is one: theorems/Powers.)
+unfoldable pub beyond : Format → Float → Bool
+beyond fmt nan = true
+beyond fmt (inf s) = true
+beyond fmt (fin s m e) = ltb (maxScaled fmt * down e) (m * up e)
+
+-- the exception rule: the value is a NaN, is infinite, is negative zero, has a scaled value that is infinite or of magnitude above L,
+-- or does not come back with the same bits
+unfoldable pub exception : Format → Pair → ℕ → Bool
+exception fmt p b =
+    let x = ofBits fmt b in
+    let y = scaled fmt p x in
+    isNan x || isInfinite x || isNegativeZero x || beyond fmt y || not (eqb (back fmt p (whole y)) b)
+
+-- the whole number of a value, or none where the value is an exception
+unfoldable pub tried : Format → Pair → ℕ → Option ℤ
+tried fmt p b = cond (exception fmt p b) none (some (whole (scaled fmt p (ofBits fmt b))))
+
+-- to unfold this is to unfold all of the above
+unfoldable pub allDecimal : Unit {0}
+unfolding power negPower scaled whole back beyond exception tried isNan round mul ofInt ofBits toBits
+allDecimal = tt

@@ -1,0 +1,99 @@
+-- The examiner: the reader's checks without 15, then rows 20 to 24: the first vector at fault, in it the lowest row, in that the first
+-- position. Assumes nothing.
+use Prim.Native.Nat.{ℕ, zero, suc, _*_, _^_}
+use mathlib.Core.Bool.{Bool, true, false, not, _||_}
+use mathlib.Core.List.{List, [], _∷_, zipWith}
+use mathlib.Core.Option.{Option, none, some}
+use lib.Dec.{eqb}
+use lib.IntN.{ℤ, pos, negsuc}
+use lib.Ieee.{Format}
+use mir.Val.{ofZ}
+use Rattle.digits.specs.Digits.{number}
+use Rattle.rules.specs.Kind.{word}
+use Rattle.rules.specs.Decimal.{Pair, exception, tried, back}
+use Rattle.rules.specs.Vector.{Raw, standIn, least, widthOf, fields, wholes, marked}
+use Rattle.rules.specs.Page.{rawsOf}
+use Rattle.rules.specs.Verdict.{Verdict, fine, _then_, row, in-vector, in-vector-at, _below_, _isnt_, Result, settle}
+use Rattle.rules.specs.Read.{pageFault, valuesOf}
+
+abbrev pub eqZ : ℤ → ℤ → Bool
+eqZ (pos a) (pos b) = eqb a b
+eqZ (pos a) (negsuc b) = false
+eqZ (negsuc a) (pos b) = false
+eqZ (negsuc a) (negsuc b) = eqb a b
+
+-- ---- the rows' conditions. A position has its whole number z and, where it is listed, the bits stored for it
+
+-- 20: an unused packed bit is 1: the packed part is a number of more bits than the fields have
+abbrev pub unusedSet : Raw → Bool
+unusedSet r = not (number (r .packed) below 2 ^ (r .count * r .width))
+
+-- 21: an unlisted whole number comes back as a value that is an exception, or that turns into another whole number
+abbrev pub isOther : ℤ → Option ℤ → Bool
+isOther z none = true
+isOther z (some y) = not (eqZ z y)
+
+abbrev pub strays : Format → Pair → ℤ → Option ℕ → Bool
+strays fmt p z none = isOther z (tried fmt p (back fmt p z))
+strays fmt p z (some b) = false
+
+-- 22: a listed value is no exception
+abbrev pub needless : Format → Pair → ℤ → Option ℕ → Bool
+needless fmt p z none = false
+needless fmt p z (some b) = not (exception fmt p b)
+
+-- 23: a listed position doesn't hold the stand-in d
+abbrev pub unfilled : ℤ → ℤ → Option ℕ → Bool
+unfilled d z none = false
+unfilled d z (some b) = not (eqZ z d)
+
+-- the stand-in of a vector as it is read: the first unlisted whole number, or 0 if all are listed
+abbrev pub unlisted : ℤ → Option ℕ → Option ℤ
+unlisted z none = some z
+unlisted z (some b) = none
+
+abbrev pub standInOf : List ℤ → List (Option ℕ) → ℤ
+standInOf zs ms = standIn (zipWith unlisted zs ms)
+
+-- 24: frame not the smallest, or width not the fewest bits
+abbrev pub frameOff : Format → Raw → Bool
+frameOff fmt r = r .frame isnt ofZ (word fmt) (least (wholes fmt r))
+
+abbrev pub widthOff : Raw → Bool
+widthOff r = r .width isnt widthOf (fields r)
+
+-- ---- in their order
+
+-- row a at the first position, counted from i, at which the condition is true
+unfoldable pub firstFault : ℕ → ℕ → (ℤ → Option ℕ → Bool) → ℕ → List ℤ → List (Option ℕ) → Verdict
+firstFault a v at-fault i [] ms = fine
+firstFault a v at-fault i (z ∷ zs) [] = fine
+firstFault a v at-fault i (z ∷ zs) (m ∷ ms) = row a (in-vector-at v i) (at-fault z m) then firstFault a v at-fault (suc i) zs ms
+
+-- 20 to 24 for vector v
+unfoldable pub rulesFault : Format → ℕ → Raw → Verdict
+rulesFault fmt v r =
+    let zs = wholes fmt r in
+    let ms = marked r in
+    row 20 (in-vector v) (unusedSet r)
+    then firstFault 21 v (strays fmt (r .pair)) 0 zs ms
+    then firstFault 22 v (needless fmt (r .pair)) 0 zs ms
+    then firstFault 23 v (unfilled (standInOf zs ms)) 0 zs ms
+    then row 24 (in-vector v) (frameOff fmt r || widthOff r)
+
+unfoldable pub rulesFaults : Format → ℕ → List Raw → Verdict
+rulesFaults fmt v [] = fine
+rulesFaults fmt v (r ∷ rs) = rulesFault fmt v r then rulesFaults fmt (suc v) rs
+
+-- 1 to 14, then 20 to 24
+unfoldable pub examineFault : Format → List ℕ → Verdict
+examineFault fmt bs = pageFault fmt bs then rulesFaults fmt 0 (rawsOf fmt bs)
+
+-- the examiner: done stands for the page's values
+unfoldable pub examineOf : Format → List ℕ → Result
+examineOf fmt bs = settle (examineFault fmt bs) (valuesOf fmt bs)
+
+-- to unfold this is to unfold all of the above
+unfoldable pub allExamine : Unit {0}
+unfolding firstFault rulesFault rulesFaults examineFault examineOf
+allExamine = tt

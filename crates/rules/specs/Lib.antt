@@ -1,0 +1,9 @@
+pub mod Kind
+pub mod Decimal
+pub mod Vector
+pub mod Page
+pub mod Verdict
+pub mod Read
+pub mod Examine
+pub mod Write
+pub mod Calls

@@ -1,0 +1,9 @@
+// Document 01's rules for ALP pages: definitions (specs/) and the laws about them that code cites (proofs/). No functions.
+
+// What every call answers: 0 for done or the number of the row that refuses, a vector number, and a place.
+#[repr(C)]
+pub struct Answer {
+    pub number: u64,
+    pub vector: u64,
+    pub place: u64,
+}
