@@ -5,8 +5,8 @@ use mathlib.Core.Path.{_≡_}
 use mathlib.Core.List.{List}
 use lib.ListN.{length}
 use lib.Ieee.{Format}
-use Rattle.rules.specs.Verdict.{Verdict, fine, refuse, done-with, refusal, answer, after}
-use Rattle.rules.specs.Write.{settingsFault, bound, writeOf}
+use Rattle.rules.specs.Verdict.{Verdict, fine, refuse, verdict, done-with, refusal, answer, after}
+use Rattle.rules.specs.Write.{settingsRows, bound, writeOf}
 use Rattle.rules.specs.Read.{readOf}
 use Rattle.rules.specs.Examine.{examineOf}
 use Rattle.rules.specs.declared.Answer.{Answer}
@@ -17,7 +17,7 @@ measured fine n = done-with n
 measured (refuse a p) n = refusal a p
 
 unfoldable pub measureOf : Format → ℕ → List ℕ → List ℕ → Answer
-measureOf fmt s pairs vs = measured (settingsFault fmt s pairs vs) (bound fmt s (length vs))
+measureOf fmt s pairs vs = measured (verdict (settingsRows fmt s pairs vs)) (bound fmt s (length vs))
 
 pub record Measured (fmt : Format) (values : List ℕ) (s : ℕ) (pairs : List ℕ) (r : Answer) : Type 0 where
   pub answer-is : r ≡ measureOf fmt s pairs values

@@ -13,8 +13,8 @@ use Rattle.rules.specs.Kind.{word}
 use Rattle.rules.specs.Decimal.{Pair, exception, tried, back}
 use Rattle.rules.specs.Vector.{Raw, standIn, least, widthOf, fields, wholes, marked}
 use Rattle.rules.specs.Page.{rawsOf}
-use Rattle.rules.specs.Verdict.{Verdict, fine, _then_, row, in-vector, in-vector-at, _below_, _isnt_, Result, settle}
-use Rattle.rules.specs.Read.{pageFault, valuesOf}
+use Rattle.rules.specs.Verdict.{Rows, no-rows, row, _then_, in-vector, in-vector-at, _below_, _isnt_, Result, call}
+use Rattle.rules.specs.Read.{pageRows, valuesOf}
 
 abbrev pub eqZ : ℤ → ℤ → Bool
 eqZ (pos a) (pos b) = eqb a b
@@ -65,35 +65,35 @@ widthOff r = r .width isnt widthOf (fields r)
 -- ---- in their order
 
 -- row a at the first position, counted from i, at which the condition is true
-unfoldable pub firstFault : ℕ → ℕ → (ℤ → Option ℕ → Bool) → ℕ → List ℤ → List (Option ℕ) → Verdict
-firstFault a v at-fault i [] ms = fine
-firstFault a v at-fault i (z ∷ zs) [] = fine
-firstFault a v at-fault i (z ∷ zs) (m ∷ ms) = row a (in-vector-at v i) (at-fault z m) then firstFault a v at-fault (suc i) zs ms
+unfoldable pub firstRows : ℕ → ℕ → (ℤ → Option ℕ → Bool) → ℕ → List ℤ → List (Option ℕ) → Rows
+firstRows a v at-fault i [] ms = no-rows
+firstRows a v at-fault i (z ∷ zs) [] = no-rows
+firstRows a v at-fault i (z ∷ zs) (m ∷ ms) = row a (in-vector-at v i) (at-fault z m) then firstRows a v at-fault (suc i) zs ms
 
 -- 20 to 24 for vector v
-unfoldable pub rulesFault : Format → ℕ → Raw → Verdict
-rulesFault fmt v r =
+unfoldable pub rulesRows : Format → ℕ → Raw → Rows
+rulesRows fmt v r =
     let zs = wholes fmt r in
     let ms = marked r in
     row 20 (in-vector v) (unusedSet r)
-    then firstFault 21 v (strays fmt (r .pair)) 0 zs ms
-    then firstFault 22 v (needless fmt (r .pair)) 0 zs ms
-    then firstFault 23 v (unfilled (standInOf zs ms)) 0 zs ms
+    then firstRows 21 v (strays fmt (r .pair)) 0 zs ms
+    then firstRows 22 v (needless fmt (r .pair)) 0 zs ms
+    then firstRows 23 v (unfilled (standInOf zs ms)) 0 zs ms
     then row 24 (in-vector v) (frameOff fmt r || widthOff r)
 
-unfoldable pub rulesFaults : Format → ℕ → List Raw → Verdict
-rulesFaults fmt v [] = fine
-rulesFaults fmt v (r ∷ rs) = rulesFault fmt v r then rulesFaults fmt (suc v) rs
+unfoldable pub allRulesRows : Format → ℕ → List Raw → Rows
+allRulesRows fmt v [] = no-rows
+allRulesRows fmt v (r ∷ rs) = rulesRows fmt v r then allRulesRows fmt (suc v) rs
 
 -- 1 to 14, then 20 to 24
-unfoldable pub examineFault : Format → List ℕ → Verdict
-examineFault fmt bs = pageFault fmt bs then rulesFaults fmt 0 (rawsOf fmt bs)
+unfoldable pub examineRows : Format → List ℕ → Rows
+examineRows fmt bs = pageRows fmt bs then allRulesRows fmt 0 (rawsOf fmt bs)
 
 -- the examiner: done stands for the page's values
 unfoldable pub examineOf : Format → List ℕ → Result
-examineOf fmt bs = settle (examineFault fmt bs) (valuesOf fmt bs)
+examineOf fmt bs = call (examineRows fmt bs) (valuesOf fmt bs)
 
 -- to unfold this is to unfold all of the above
 unfoldable pub allExamine : Unit {0}
-unfolding firstFault rulesFault rulesFaults examineFault examineOf
+unfolding firstRows rulesRows allRulesRows examineRows examineOf
 allExamine = tt

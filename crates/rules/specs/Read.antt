@@ -8,13 +8,13 @@ use Rattle.digits.specs.Lists.{join}
 use Rattle.rules.specs.Kind.{minS, maxS, maxValues, maxExponent, wordBits, metaBytes}
 use Rattle.rules.specs.Vector.{Raw, decoded}
 use Rattle.rules.specs.Page.{vectorSize, versionOf, modeOf, encodingOf, sOf, countOf, vectorsOf, offsetsOf, bodyOf, Meta, metaAt, rawFrom, rawsOf}
-use Rattle.rules.specs.Verdict.{Verdict, fine, _then_, row, the-page, in-vector, in-vector-at, _below_, _above_, _isnt_, Result, settle}
+use Rattle.rules.specs.Verdict.{Rows, no-rows, row, _then_, the-page, in-vector, in-vector-at, _below_, _above_, _isnt_, Result, call}
 
 -- ---- of the page
 
 -- 1 to 6
-unfoldable pub headFault : List ℕ → Verdict
-headFault bs =
+unfoldable pub headRows : List ℕ → Rows
+headRows bs =
     row 1 the-page (length bs below 8)
     then row 2 the-page (versionOf bs isnt 1)
     then row 3 the-page (modeOf bs isnt 0)
@@ -23,14 +23,14 @@ headFault bs =
     then row 6 the-page (countOf bs above maxValues)
 
 -- 7 for the offsets
-unfoldable pub offsetsFault : List ℕ → Verdict
-offsetsFault bs = row 7 the-page (length bs below 8 + 4 * vectorsOf bs)
+unfoldable pub offsetsRow : List ℕ → Rows
+offsetsRow bs = row 7 the-page (length bs below 8 + 4 * vectorsOf bs)
 
 -- ---- of one vector: number v, of n values, at the front of bs, its metadata read as m
 
 -- 7 for metadata, 9 to 12, 7 for data
-unfoldable pub metaFault : Format → ℕ → ℕ → Meta → List ℕ → Verdict
-metaFault fmt v n m bs =
+unfoldable pub metaRows : Format → ℕ → ℕ → Meta → List ℕ → Rows
+metaRows fmt v n m bs =
     row 7 (in-vector v) (length bs below metaBytes fmt)
     then row 9 (in-vector v) (m .pair .exponent above maxExponent fmt)
     then row 10 (in-vector v) (m .pair .factor above m .pair .exponent)
@@ -44,14 +44,14 @@ pub record Listed : Type 0 where
   pub low : ℕ
 
 -- 13: a position not below the vector's count n, or not above the one before; place: its index in the list
-unfoldable pub positionsFault : ℕ → ℕ → Listed → List ℕ → Verdict
-positionsFault v n k [] = fine
-positionsFault v n k (p ∷ ps) =
+unfoldable pub positionsRows : ℕ → ℕ → Listed → List ℕ → Rows
+positionsRows v n k [] = no-rows
+positionsRows v n k (p ∷ ps) =
     row 13 (in-vector-at v (k .index)) (not (p below n) || p below k .low)
-    then positionsFault v n (record { index = suc (k .index); low = suc p }) ps
+    then positionsRows v n (record { index = suc (k .index); low = suc p }) ps
 
-unfoldable pub listFault : Format → ℕ → ℕ → Meta → List ℕ → Verdict
-listFault fmt v n m bs = positionsFault v n (record { index = 0; low = 0 }) (rawFrom fmt n m (drop (metaBytes fmt) bs) .positions)
+unfoldable pub listRows : Format → ℕ → ℕ → Meta → List ℕ → Rows
+listRows fmt v n m bs = positionsRows v n (record { index = 0; low = 0 }) (rawFrom fmt n m (drop (metaBytes fmt) bs) .positions)
 
 -- ---- of all vectors
 
@@ -69,29 +69,29 @@ abbrev pub next : Format → ℕ → Cursor → Meta → Cursor
 next fmt size c m = record { vector = suc (c .vector); offset = c .offset + vectorSize fmt (here size c) m; left = c .left - size }
 
 -- 8, 7 for metadata, 9 to 12, 7 for data, 13; o is the offset that the page has for this vector
-unfoldable pub vectorFault : Format → ℕ → Cursor → ℕ → Meta → List ℕ → Verdict
-vectorFault fmt size c o m bs =
+unfoldable pub vectorRows : Format → ℕ → Cursor → ℕ → Meta → List ℕ → Rows
+vectorRows fmt size c o m bs =
     row 8 (in-vector (c .vector)) (o isnt c .offset)
-    then metaFault fmt (c .vector) (here size c) m bs
-    then listFault fmt (c .vector) (here size c) m bs
+    then metaRows fmt (c .vector) (here size c) m bs
+    then listRows fmt (c .vector) (here size c) m bs
 
 -- each vector in turn; then 14
-unfoldable pub vectorsFault : Format → ℕ → Cursor → List ℕ → List ℕ → Verdict
-vectorsFault fmt size c [] bs = row 14 the-page (length bs above 0)
-vectorsFault fmt size c (o ∷ os) bs =
+unfoldable pub vectorsRows : Format → ℕ → Cursor → List ℕ → List ℕ → Rows
+vectorsRows fmt size c [] bs = row 14 the-page (length bs above 0)
+vectorsRows fmt size c (o ∷ os) bs =
     let m = metaAt fmt bs in
-    vectorFault fmt size c o m bs then vectorsFault fmt size (next fmt size c m) os (drop (vectorSize fmt (here size c) m) bs)
+    vectorRows fmt size c o m bs then vectorsRows fmt size (next fmt size c m) os (drop (vectorSize fmt (here size c) m) bs)
 
 -- the first vector has number 0 and stands behind the offsets
 abbrev pub start : List ℕ → Cursor
 start bs = record { vector = 0; offset = 4 * vectorsOf bs; left = countOf bs }
 
 -- 1 to 14
-unfoldable pub pageFault : Format → List ℕ → Verdict
-pageFault fmt bs =
-    headFault bs
-    then offsetsFault bs
-    then vectorsFault fmt (2 ^ sOf bs) (start bs) (offsetsOf bs) (bodyOf bs)
+unfoldable pub pageRows : Format → List ℕ → Rows
+pageRows fmt bs =
+    headRows bs
+    then offsetsRow bs
+    then vectorsRows fmt (2 ^ sOf bs) (start bs) (offsetsOf bs) (bodyOf bs)
 
 -- ---- the reader, lent an output of `room` values
 
@@ -99,13 +99,13 @@ unfoldable pub valuesOf : Format → List ℕ → List ℕ
 valuesOf fmt bs = join (map (decoded fmt) (rawsOf fmt bs))
 
 -- 1 to 14, then 15
-unfoldable pub readFault : Format → ℕ → List ℕ → Verdict
-readFault fmt room bs = pageFault fmt bs then row 15 the-page (room below countOf bs)
+unfoldable pub readRows : Format → ℕ → List ℕ → Rows
+readRows fmt room bs = pageRows fmt bs then row 15 the-page (room below countOf bs)
 
 unfoldable pub readOf : Format → ℕ → List ℕ → Result
-readOf fmt room bs = settle (readFault fmt room bs) (valuesOf fmt bs)
+readOf fmt room bs = call (readRows fmt room bs) (valuesOf fmt bs)
 
 -- to unfold this is to unfold all of the above
 unfoldable pub allRead : Unit {0}
-unfolding headFault offsetsFault metaFault positionsFault listFault vectorFault vectorsFault pageFault valuesOf readFault readOf
+unfolding headRows offsetsRow metaRows positionsRows listRows vectorRows vectorsRows pageRows valuesOf readRows readOf
 allRead = tt

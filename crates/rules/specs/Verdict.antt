@@ -1,4 +1,5 @@
--- When a call says no: rows that refuse, in an order; what a call gives; its answer; and what it leaves of a lent output. Assumes nothing.
+-- When a call says no: its rows in their order, the first that refuses, what the call gives, its answer, and what it leaves of a lent
+-- output. Assumes nothing.
 use Prim.Native.Nat.{ℕ}
 use mathlib.Core.Bool.{Bool, true, false, not}
 use mathlib.Core.List.{List}
@@ -36,21 +37,27 @@ in-vector v = record { vector = v; place = 0 }
 abbrev pub in-vector-at : ℕ → ℕ → Point
 in-vector-at v i = record { vector = v; place = i }
 
--- the outcome of checks: nothing to refuse, or a row with where it points
+-- a call's rows in their order: each has its number, where it points, and its condition, which refuses where it is true
+infixr 20 _then_
+pub data Rows : Type 0 where
+  no-rows : Rows
+  row : ℕ → Point → Bool → Rows
+  _then_ : Rows → Rows → Rows
+
+-- what they come to: nothing to refuse, or the first row whose condition is true
 pub data Verdict : Type 0 where
   fine : Verdict
   refuse : ℕ → Point → Verdict
 
--- row a refuses where its condition is true
-abbrev pub row : ℕ → Point → Bool → Verdict
-row a p true = refuse a p
-row a p false = fine
+abbrev pub first : Verdict → Verdict → Verdict
+first fine v = v
+first (refuse a p) v = refuse a p
 
--- the first that refuses decides
-infixr 20 _then_
-abbrev pub _then_ : Verdict → Verdict → Verdict
-fine then v = v
-refuse a p then v = refuse a p
+abbrev pub verdict : Rows → Verdict
+verdict no-rows = fine
+verdict (row a p true) = refuse a p
+verdict (row a p false) = fine
+verdict (x then y) = first (verdict x) (verdict y)
 
 -- ---- what a call gives: the bytes or values that it writes, or a refusal
 
@@ -61,6 +68,10 @@ pub data Result : Type 0 where
 abbrev pub settle : Verdict → List ℕ → Result
 settle fine xs = done xs
 settle (refuse a p) xs = refused a p
+
+-- a call with these rows, which gives xs where none refuses
+abbrev pub call : Rows → List ℕ → Result
+call rows xs = settle (verdict rows) xs
 
 -- its answer: done is 0 with vector number 0 and the count written as place; a refusal is its row with where it points
 abbrev pub done-with : ℕ → Answer

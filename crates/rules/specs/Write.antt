@@ -9,7 +9,7 @@ use Rattle.digits.specs.Lists.{Each}
 use Rattle.rules.specs.Kind.{minS, maxS, maxValues, maxExponent, wordBytes, metaBytes}
 use Rattle.rules.specs.Decimal.{Pair}
 use Rattle.rules.specs.Page.{vectors, pageOf}
-use Rattle.rules.specs.Verdict.{Verdict, fine, _then_, row, the-page, in-vector, _below_, _above_, _isnt_, Result, settle}
+use Rattle.rules.specs.Verdict.{Rows, no-rows, row, _then_, the-page, in-vector, _below_, _above_, _isnt_, Result, call}
 
 -- ---- settings
 
@@ -39,20 +39,20 @@ pub record Inside (fmt : Format) (s : ℕ) (ps : List Pair) (n : ℕ) : Type 0 w
 -- ---- the checks
 
 -- 9 and 10, vector by vector from number v
-unfoldable pub pairsFault : Format → ℕ → List Pair → Verdict
-pairsFault fmt v [] = fine
-pairsFault fmt v (p ∷ ps) =
+unfoldable pub pairsRows : Format → ℕ → List Pair → Rows
+pairsRows fmt v [] = no-rows
+pairsRows fmt v (p ∷ ps) =
     row 9 (in-vector v) (p .exponent above maxExponent fmt)
     then row 10 (in-vector v) (p .factor above p .exponent)
-    then pairsFault fmt (suc v) ps
+    then pairsRows fmt (suc v) ps
 
 -- 5, 6, 16, then 9 and 10; an odd count of bytes is never two for each vector
-unfoldable pub settingsFault : Format → ℕ → List ℕ → List ℕ → Verdict
-settingsFault fmt s pairs vs =
+unfoldable pub settingsRows : Format → ℕ → List ℕ → List ℕ → Rows
+settingsRows fmt s pairs vs =
     row 5 the-page (s below minS || s above maxS)
     then row 6 the-page (length vs above maxValues)
     then row 16 the-page (length pairs isnt 2 * vectors s (length vs))
-    then pairsFault fmt 0 (pairsOf pairs)
+    then pairsRows fmt 0 (pairsOf pairs)
 
 -- the room that the writer asks for n values (004, section 9.3)
 unfoldable pub bound : Format → ℕ → ℕ → ℕ
@@ -61,13 +61,13 @@ bound fmt s n = 8 + vectors s n * (4 + metaBytes fmt) + n * (2 * wordBytes fmt +
 -- ---- the writer, lent an output of `room` bytes
 
 -- 5, 6, 16, 9 and 10, then 15
-unfoldable pub writeFault : Format → ℕ → List ℕ → List ℕ → ℕ → Verdict
-writeFault fmt s pairs vs room = settingsFault fmt s pairs vs then row 15 the-page (room below bound fmt s (length vs))
+unfoldable pub writeRows : Format → ℕ → List ℕ → List ℕ → ℕ → Rows
+writeRows fmt s pairs vs room = settingsRows fmt s pairs vs then row 15 the-page (room below bound fmt s (length vs))
 
 unfoldable pub writeOf : Format → ℕ → List ℕ → List ℕ → ℕ → Result
-writeOf fmt s pairs vs room = settle (writeFault fmt s pairs vs room) (pageOf fmt s (pairsOf pairs) vs)
+writeOf fmt s pairs vs room = call (writeRows fmt s pairs vs room) (pageOf fmt s (pairsOf pairs) vs)
 
 -- to unfold this is to unfold all of the above
 unfoldable pub allWrite : Unit {0}
-unfolding pairsOf pairBytes pairsFault settingsFault bound writeFault writeOf
+unfolding pairsOf pairBytes pairsRows settingsRows bound writeRows writeOf
 allWrite = tt

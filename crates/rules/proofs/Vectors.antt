@@ -1,0 +1,93 @@
+-- One vector: what was encoded is decoded. Assumes nothing.
+use mathlib.Core.Path.{_≡_, refl, sym, ap, ap₂, _∙_}
+use Prim.Native.Nat.{ℕ, _+_, _%_, _^_}
+use mathlib.Core.List.{List, [], _∷_, map, zipWith}
+use mathlib.Core.Option.{Option, none, some}
+use lib.ListN.{length, length-map}
+use lib.Pow.{pow-pos}
+use lib.IntN.{ℤ, pos, natAbs, _-ℤ_}
+use lib.Ieee.{Format}
+use mir.Val.{hbits, ofZ, toZ}
+use Rattle.rules.specs.Kind.{word, wordBits}
+use Rattle.digits.specs.Lists.{Each}
+use Rattle.digits.specs.Digits.{pack, unpack}
+use Rattle.digits.proofs.Lists.{each-map, each-both, each-below}
+use Rattle.digits.proofs.Pack.{unpack-pack}
+use Rattle.rules.specs.Decimal.{Pair, tried, back}
+use Rattle.rules.specs.Vector.{standIn, orElse, least, fieldsOf, widthOf, places, picks, rawOf, encoded, fields, wholes, marks, marked, decoded}
+use Rattle.rules.proofs.Fields.{field-back}
+
+use Rattle.rules.proofs.Order.{AtMost, width-holds, least-below, least-one}
+use Rattle.rules.proofs.Tries.{Held, tried-some}
+use Rattle.rules.proofs.Marks.{mark, marks-back}
+
+-- ---- whole numbers, out of frame and fields
+
+map-back : {A B : Type 0} (f : A → B) (g : B → A) (xs : List A) → Each (λ (x : A). g (f x) ≡ x) xs → map g (map f xs) ≡ xs
+map-back f g [] h = refl
+map-back {A = A} f g (x ∷ xs) h = ap₂ (λ (y : A) (ys : List A). y ∷ ys) (h .0) (map-back f g xs (h .1))
+
+pub length-fields : (zs : List ℤ) → length (fieldsOf zs) ≡ length zs
+unfolding fieldsOf
+length-fields zs = length-map zs (λ (z : ℤ). natAbs (z -ℤ least zs))
+
+pub fields-back : (fmt : Format) (p : Pair) (zs : List ℤ) (ps xs : List ℕ) → fields (rawOf fmt p zs ps xs) ≡ fieldsOf zs
+unfolding fields rawOf
+fields-back fmt p zs ps xs =
+    let fs : List ℕ = fieldsOf zs in
+    ap (λ (n : ℕ). unpack (widthOf fs) n (pack (widthOf fs) fs)) (sym (length-fields zs))
+    ∙ unpack-pack (widthOf fs) fs (each-below (2 ^ widthOf fs) fs (pow-pos (widthOf fs)) (width-holds fs))
+
+pub wholes-back : (fmt : Format) (p : Pair) (zs : List ℤ) (ps xs : List ℕ) → Each (Held fmt) zs → wholes fmt (rawOf fmt p zs ps xs) ≡ zs
+unfolding wholes rawOf fieldsOf
+wholes-back fmt p zs ps xs h =
+    let m : ℤ = least zs in
+    let hm : Held fmt m = least-one (Held fmt) zs (pow-pos (hbits (word fmt))) h in
+    ap (map (λ (d : ℕ). toZ (word fmt) ((ofZ (word fmt) m + d) % 2 ^ wordBits fmt))) (fields-back fmt p zs ps xs)
+    ∙ map-back (λ (z : ℤ). natAbs (z -ℤ m)) (λ (d : ℕ). toZ (word fmt) ((ofZ (word fmt) m + d) % 2 ^ wordBits fmt)) zs
+    (each-map (λ (z : ℤ). AtMost m z × Held fmt z) (λ (z : ℤ). toZ (word fmt) ((ofZ (word fmt) m + natAbs (z -ℤ m)) % 2 ^ wordBits fmt) ≡ z) (λ z k. field-back (word fmt) m z (k .0) hm (k .1)) zs (each-both (AtMost m) (Held fmt) zs (least-below zs) h))
+
+-- ---- the round trip of one vector
+
+standIn-one : (P : ℤ → Type 0) (ts : List (Option ℤ)) → P (pos 0) → Each (λ (t : Option ℤ). (z : ℤ) → t ≡ some z → P z) ts → P (standIn ts)
+unfolding standIn
+standIn-one P [] o h = o
+standIn-one P (none ∷ ts) o h = standIn-one P ts o (h .1)
+standIn-one P (some z ∷ ts) o h = h .0 z refl
+
+filled-held : (P : ℤ → Type 0) (d : ℤ) (ts : List (Option ℤ)) → P d → Each (λ (t : Option ℤ). (z : ℤ) → t ≡ some z → P z) ts → Each P (map (orElse d) ts)
+filled-held P d [] o h = tt
+filled-held P d (none ∷ ts) o h = (o, filled-held P d ts o (h .1))
+filled-held P d (some z ∷ ts) o h = (h .0 z refl, filled-held P d ts o (h .1))
+
+module _ (fmt : Format) (p : Pair) where
+  tries-held : (vs : List ℕ) → Each (λ (t : Option ℤ). (z : ℤ) → t ≡ some z → Held fmt z) (map (tried fmt p) vs)
+  tries-held [] = tt
+  tries-held (v ∷ vs) = (λ z e. (tried-some fmt p v z e) .1, tries-held vs)
+
+  pub numbers-held : (vs : List ℕ) → Each (Held fmt) (map (orElse (standIn (map (tried fmt p) vs))) (map (tried fmt p) vs))
+  numbers-held vs =
+      filled-held (Held fmt) (standIn (map (tried fmt p) vs)) (map (tried fmt p) vs)
+      (standIn-one (Held fmt) (map (tried fmt p) vs) (pow-pos (hbits (word fmt))) (tries-held vs)) (tries-held vs)
+
+  zip-back : (d : ℤ) (vs : List ℕ) → zipWith (λ (z : ℤ) (m : Option ℕ). orElse (back fmt p z) m) (map (orElse d) (map (tried fmt p) vs)) (zipWith mark (map (tried fmt p) vs) vs) ≡ vs
+  unfolding zipWith
+  zip-back d [] = refl
+  zip-back d (v ∷ vs) = go (tried fmt p v) refl (zip-back d vs)
+    where
+      go : (t : Option ℤ) → tried fmt p v ≡ t
+          → zipWith (λ (z : ℤ) (m : Option ℕ). orElse (back fmt p z) m) (map (orElse d) (map (tried fmt p) vs)) (zipWith mark (map (tried fmt p) vs) vs) ≡ vs
+          → _≡_ {A = List ℕ} (orElse (back fmt p (orElse d t)) (mark t v) ∷ zipWith (λ (z : ℤ) (m : Option ℕ). orElse (back fmt p z) m) (map (orElse d) (map (tried fmt p) vs)) (zipWith mark (map (tried fmt p) vs) vs)) (v ∷ vs)
+      go none e ih = ap (λ (l : List ℕ). v ∷ l) ih
+      go (some z) e ih = ap₂ (λ (x : ℕ) (l : List ℕ). x ∷ l) ((tried-some fmt p v z e) .0) ih
+
+  pub vector-back : (vs : List ℕ) → decoded fmt (encoded fmt p vs) ≡ vs
+  unfolding decoded encoded marked rawOf
+  vector-back vs =
+      let ts : List (Option ℤ) = map (tried fmt p) vs in
+      let zs : List ℤ = map (orElse (standIn ts)) ts in
+      let g : ℤ → Option ℕ → ℕ = λ z m. orElse (back fmt p z) m in
+      let n : length zs ≡ length vs = length-map ts (orElse (standIn ts)) ∙ length-map vs (tried fmt p) in
+      ap (λ (l : List ℤ). zipWith g l (marks (places 0 ts) (picks ts vs) 0 (length zs))) (wholes-back fmt p zs (places 0 ts) (picks ts vs) (numbers-held vs))
+      ∙ ap (zipWith g zs) (ap (marks (places 0 ts) (picks ts vs) 0) n ∙ marks-back 0 ts vs (length-map vs (tried fmt p)))
+      ∙ zip-back (standIn ts) vs
