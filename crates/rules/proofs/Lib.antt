@@ -4,3 +4,7 @@ pub mod Order
 pub mod Tries
 pub mod Marks
 pub mod Vectors
+pub mod Pages
+pub mod Reading
+pub mod Encoded
+pub mod Settings

@@ -30,6 +30,11 @@ then-passes x y p q = first-passes (verdict x) (verdict y) p q
 pub then-fine : (x y : Rows) → verdict (x then y) ≡ fine → (verdict x ≡ fine) × (verdict y ≡ fine)
 then-fine x y e = first-fine (verdict x) (verdict y) e
 
+-- a row in front of others: its condition is false, and the others pass
+pub row-first : (a : ℕ) (p : Point) (b : Bool) (y : Verdict) → first (verdict (row a p b)) y ≡ fine → (b ≡ false) × (y ≡ fine)
+row-first a p true y e = let o : _≡_ {A = ℕ} 0 1 = cc in absurd (omega arith)
+row-first a p false y e = (refl, e)
+
 -- ---- conditions
 
 pub is : (a b : ℕ) → a ≡ b → (a isnt b) ≡ false

@@ -14,7 +14,7 @@ use Rattle.digits.specs.Digits.{pack, unpack}
 use Rattle.digits.proofs.Lists.{each-map, each-both, each-below}
 use Rattle.digits.proofs.Pack.{unpack-pack}
 use Rattle.rules.specs.Decimal.{Pair, tried, back}
-use Rattle.rules.specs.Vector.{standIn, orElse, least, fieldsOf, widthOf, places, picks, rawOf, encoded, fields, wholes, marks, marked, decoded}
+use Rattle.rules.specs.Vector.{tries, filled, standIn, orElse, least, fieldsOf, widthOf, places, picks, rawOf, encoded, fields, wholes, marks, marked, decoded}
 use Rattle.rules.proofs.Fields.{field-back}
 
 use Rattle.rules.proofs.Order.{AtMost, width-holds, least-below, least-one}
@@ -55,39 +55,39 @@ standIn-one P [] o h = o
 standIn-one P (none ∷ ts) o h = standIn-one P ts o (h .1)
 standIn-one P (some z ∷ ts) o h = h .0 z refl
 
-filled-held : (P : ℤ → Type 0) (d : ℤ) (ts : List (Option ℤ)) → P d → Each (λ (t : Option ℤ). (z : ℤ) → t ≡ some z → P z) ts → Each P (map (orElse d) ts)
-filled-held P d [] o h = tt
-filled-held P d (none ∷ ts) o h = (o, filled-held P d ts o (h .1))
-filled-held P d (some z ∷ ts) o h = (h .0 z refl, filled-held P d ts o (h .1))
+fill-held : (P : ℤ → Type 0) (d : ℤ) (ts : List (Option ℤ)) → P d → Each (λ (t : Option ℤ). (z : ℤ) → t ≡ some z → P z) ts → Each P (map (orElse d) ts)
+fill-held P d [] o h = tt
+fill-held P d (none ∷ ts) o h = (o, fill-held P d ts o (h .1))
+fill-held P d (some z ∷ ts) o h = (h .0 z refl, fill-held P d ts o (h .1))
 
 module _ (fmt : Format) (p : Pair) where
-  tries-held : (vs : List ℕ) → Each (λ (t : Option ℤ). (z : ℤ) → t ≡ some z → Held fmt z) (map (tried fmt p) vs)
+  tries-held : (vs : List ℕ) → Each (λ (t : Option ℤ). (z : ℤ) → t ≡ some z → Held fmt z) (tries fmt p vs)
   tries-held [] = tt
   tries-held (v ∷ vs) = (λ z e. (tried-some fmt p v z e) .1, tries-held vs)
 
-  pub numbers-held : (vs : List ℕ) → Each (Held fmt) (map (orElse (standIn (map (tried fmt p) vs))) (map (tried fmt p) vs))
-  numbers-held vs =
-      filled-held (Held fmt) (standIn (map (tried fmt p) vs)) (map (tried fmt p) vs)
-      (standIn-one (Held fmt) (map (tried fmt p) vs) (pow-pos (hbits (word fmt))) (tries-held vs)) (tries-held vs)
+  pub filled-held : (vs : List ℕ) → Each (Held fmt) (filled (tries fmt p vs))
+  filled-held vs =
+      fill-held (Held fmt) (standIn (tries fmt p vs)) (tries fmt p vs)
+      (standIn-one (Held fmt) (tries fmt p vs) (pow-pos (hbits (word fmt))) (tries-held vs)) (tries-held vs)
 
-  zip-back : (d : ℤ) (vs : List ℕ) → zipWith (λ (z : ℤ) (m : Option ℕ). orElse (back fmt p z) m) (map (orElse d) (map (tried fmt p) vs)) (zipWith mark (map (tried fmt p) vs) vs) ≡ vs
+  zip-back : (d : ℤ) (vs : List ℕ) → zipWith (λ (z : ℤ) (m : Option ℕ). orElse (back fmt p z) m) (map (orElse d) (tries fmt p vs)) (zipWith mark (tries fmt p vs) vs) ≡ vs
   unfolding zipWith
   zip-back d [] = refl
   zip-back d (v ∷ vs) = go (tried fmt p v) refl (zip-back d vs)
     where
       go : (t : Option ℤ) → tried fmt p v ≡ t
-          → zipWith (λ (z : ℤ) (m : Option ℕ). orElse (back fmt p z) m) (map (orElse d) (map (tried fmt p) vs)) (zipWith mark (map (tried fmt p) vs) vs) ≡ vs
-          → _≡_ {A = List ℕ} (orElse (back fmt p (orElse d t)) (mark t v) ∷ zipWith (λ (z : ℤ) (m : Option ℕ). orElse (back fmt p z) m) (map (orElse d) (map (tried fmt p) vs)) (zipWith mark (map (tried fmt p) vs) vs)) (v ∷ vs)
+          → zipWith (λ (z : ℤ) (m : Option ℕ). orElse (back fmt p z) m) (map (orElse d) (tries fmt p vs)) (zipWith mark (tries fmt p vs) vs) ≡ vs
+          → _≡_ {A = List ℕ} (orElse (back fmt p (orElse d t)) (mark t v) ∷ zipWith (λ (z : ℤ) (m : Option ℕ). orElse (back fmt p z) m) (map (orElse d) (tries fmt p vs)) (zipWith mark (tries fmt p vs) vs)) (v ∷ vs)
       go none e ih = ap (λ (l : List ℕ). v ∷ l) ih
       go (some z) e ih = ap₂ (λ (x : ℕ) (l : List ℕ). x ∷ l) ((tried-some fmt p v z e) .0) ih
 
   pub vector-back : (vs : List ℕ) → decoded fmt (encoded fmt p vs) ≡ vs
   unfolding decoded encoded marked rawOf
   vector-back vs =
-      let ts : List (Option ℤ) = map (tried fmt p) vs in
-      let zs : List ℤ = map (orElse (standIn ts)) ts in
+      let ts : List (Option ℤ) = tries fmt p vs in
+      let zs : List ℤ = filled ts in
       let g : ℤ → Option ℕ → ℕ = λ z m. orElse (back fmt p z) m in
       let n : length zs ≡ length vs = length-map ts (orElse (standIn ts)) ∙ length-map vs (tried fmt p) in
-      ap (λ (l : List ℤ). zipWith g l (marks (places 0 ts) (picks ts vs) 0 (length zs))) (wholes-back fmt p zs (places 0 ts) (picks ts vs) (numbers-held vs))
+      ap (λ (l : List ℤ). zipWith g l (marks (places 0 ts) (picks ts vs) 0 (length zs))) (wholes-back fmt p zs (places 0 ts) (picks ts vs) (filled-held vs))
       ∙ ap (zipWith g zs) (ap (marks (places 0 ts) (picks ts vs) 0) n ∙ marks-back 0 ts vs (length-map vs (tried fmt p)))
       ∙ zip-back (standIn ts) vs
