@@ -67,4 +67,3 @@ marks-back i (none ∷ ts) (v ∷ vs) e =
     (marks-skip i v (places (suc i) ts) (picks ts vs) (suc i) (length vs) (le-refl (suc i)) ∙ marks-back (suc i) ts vs (suc-inj e))
 marks-back i (some z ∷ ts) (v ∷ vs) e =
     ap₂ (λ (m : Option ℕ) (ms : List (Option ℕ)). m ∷ ms) (stored-none (places (suc i) ts) (picks ts vs) i (places-above (suc i) ts)) (marks-back (suc i) ts vs (suc-inj e))
-

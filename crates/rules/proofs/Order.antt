@@ -87,4 +87,3 @@ pub least-one : (P : ℤ → Type 0) (zs : List ℤ) → P (pos 0) → Each P zs
 unfolding least
 least-one P [] o k = o
 least-one P (z ∷ zs) o k = leastOf-one P z zs (k .0) (k .1)
-

@@ -15,7 +15,6 @@ use lib.Ieee.Nearest.{closest, closest-mono}
 use mir.Val.{hbits}
 use Rattle.rules.specs.Kind.{word, maxScaled}
 use Rattle.rules.specs.Decimal.{Pair, exception, tried, back, scaled, whole, beyond, isInfinite, isNegativeZero, signed}
-
 use borrow.Author.Tests.{ltb-false, eqb-true, not-false}
 use Rattle.rules.proofs.Rows.{or-false}
 

@@ -16,7 +16,6 @@ use Rattle.digits.proofs.Pack.{unpack-pack}
 use Rattle.rules.specs.Decimal.{Pair, tried, back}
 use Rattle.rules.specs.Vector.{tries, filled, standIn, orElse, least, fieldsOf, widthOf, places, picks, rawOf, encoded, fields, wholes, marks, marked, decoded}
 use Rattle.rules.proofs.Fields.{field-back}
-
 use Rattle.rules.proofs.Order.{AtMost, width-holds, least-below, least-one}
 use Rattle.rules.proofs.Tries.{Held, tried-some}
 use Rattle.rules.proofs.Marks.{mark, marks-back}

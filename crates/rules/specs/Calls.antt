@@ -2,8 +2,10 @@
 -- these records. Assumes nothing.
 use Prim.Native.Nat.{ℕ}
 use mathlib.Core.Path.{_≡_}
-use mathlib.Core.List.{List}
+use mathlib.Core.Bool.{Bool, false, _||_}
+use mathlib.Core.List.{List, [], _∷_}
 use lib.ListN.{length}
+use lib.Dec.{eqb}
 use lib.Ieee.{Format}
 use Rattle.rules.specs.Verdict.{Verdict, fine, refuse, verdict, done-with, refusal, answer, after}
 use Rattle.rules.specs.Write.{settingsRows, bound, writeOf}
@@ -33,3 +35,21 @@ pub record Read (fmt : Format) (page out : List ℕ) (r : Answer) (end : List �
 
 pub record Examined (fmt : Format) (page : List ℕ) (r : Answer) : Type 0 where
   pub answer-is : r ≡ answer (examineOf fmt page)
+
+-- ---- document 01's "Given by" column: the rows that each call may refuse with
+
+abbrev pub given-by-measuring : List ℕ
+given-by-measuring = 5 ∷ 6 ∷ 9 ∷ 10 ∷ 16 ∷ []
+
+abbrev pub given-by-writer : List ℕ
+given-by-writer = 5 ∷ 6 ∷ 9 ∷ 10 ∷ 15 ∷ 16 ∷ []
+
+abbrev pub given-by-reader : List ℕ
+given-by-reader = 1 ∷ 2 ∷ 3 ∷ 4 ∷ 5 ∷ 6 ∷ 7 ∷ 8 ∷ 9 ∷ 10 ∷ 11 ∷ 12 ∷ 13 ∷ 14 ∷ 15 ∷ []
+
+abbrev pub given-by-examiner : List ℕ
+given-by-examiner = 1 ∷ 2 ∷ 3 ∷ 4 ∷ 5 ∷ 6 ∷ 7 ∷ 8 ∷ 9 ∷ 10 ∷ 11 ∷ 12 ∷ 13 ∷ 14 ∷ 20 ∷ 21 ∷ 22 ∷ 23 ∷ 24 ∷ []
+
+abbrev pub among : ℕ → List ℕ → Bool
+among a [] = false
+among a (b ∷ bs) = eqb a b || among a bs

@@ -2,10 +2,11 @@
 -- output. Assumes nothing.
 use Prim.Native.Nat.{ℕ}
 use mathlib.Core.Bool.{Bool, true, false, not}
-use mathlib.Core.List.{List}
+use mathlib.Core.Path.{_≡_}
+use mathlib.Core.List.{List, [], _∷_, _++_}
 use lib.ListN.{length}
 use lib.Dec.{ltb, eqb}
-use Rattle.digits.specs.Lists.{over}
+use Rattle.digits.specs.Lists.{Each, over}
 use Rattle.rules.specs.declared.Answer.{Answer}
 
 -- ---- the words of document 01's table, as tests
@@ -58,6 +59,26 @@ verdict no-rows = fine
 verdict (row a p true) = refuse a p
 verdict (row a p false) = fine
 verdict (x then y) = first (verdict x) (verdict y)
+
+-- all rows of a call, one after the other; and that row a, pointing at p, is the first of some rows whose condition is true
+pub record Row : Type 0 where
+  pub number : ℕ
+  pub point : Point
+  pub condition : Bool
+
+abbrev pub ordered : Rows → List Row
+ordered no-rows = []
+ordered (row a p b) = record { number = a; point = p; condition = b } ∷ []
+ordered (x then y) = ordered x ++ ordered y
+
+abbrev pub Passes : Row → Type 0
+Passes r = r .condition ≡ false
+
+pub record FirstTrue (rows : List Row) (a : ℕ) (p : Point) : Type 0 where
+  pub before : List Row
+  pub behind : List Row
+  pub rows-are : rows ≡ before ++ (record { number = a; point = p; condition = true } ∷ behind)
+  pub none-before : Each Passes before
 
 -- ---- what a call gives: the bytes or values that it writes, or a refusal
 
