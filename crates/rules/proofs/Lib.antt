@@ -8,3 +8,4 @@ pub mod Pages
 pub mod Reading
 pub mod Encoded
 pub mod Settings
+pub mod Decoded
