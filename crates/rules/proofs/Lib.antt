@@ -9,3 +9,4 @@ pub mod Reading
 pub mod Encoded
 pub mod Settings
 pub mod Decoded
+pub mod Powers

@@ -14,7 +14,7 @@ pub record Pair : Type 0 where
   pub exponent : ℕ
   pub factor : ℕ
 
--- 10^k, and the float of the kind nearest to 10^-k. That the first is exact and the second nearest is a theorem (theorems/Powers)
+-- 10^k, and the float of the kind nearest to 10^-k. That the first is exact and the second nearest is a theorem (rules/proofs/Powers)
 unfoldable pub power : Format → ℕ → Float
 power fmt k = round fmt false (10 ^ k) 1
 
@@ -49,7 +49,7 @@ isNegativeZero nan = false
 isNegativeZero (inf s) = false
 isNegativeZero (fin s m e) = s && eqb m 0
 
--- infinite or of magnitude above L. (A scaled value inside the limits is a NaN only where the value is one: theorems/Powers.)
+-- infinite or of magnitude above L. (A scaled value inside the limits is a NaN only where the value is one: rules/proofs/Powers.)
 unfoldable pub beyond : Format → Float → Bool
 beyond fmt nan = true
 beyond fmt (inf s) = true

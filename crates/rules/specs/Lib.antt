@@ -1,5 +1,6 @@
 pub mod Kind
 pub mod Decimal
+pub mod Floats
 pub mod Vector
 pub mod Page
 pub mod Verdict

@@ -1,3 +1,6 @@
 pub mod Ordered
 pub mod RoundTrip
 pub mod Accepted
+pub mod Examined
+pub mod Rounding
+pub mod Nearest
