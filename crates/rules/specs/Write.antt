@@ -6,7 +6,7 @@ use mathlib.Core.List.{List, [], _∷_}
 use lib.ListN.{length}
 use lib.Ieee.{Format}
 use Rattle.digits.specs.Lists.{Each}
-use Rattle.rules.specs.Kind.{minS, maxS, maxValues, maxExponent, wordBytes, metaBytes}
+use Rattle.rules.specs.Kind.{minS, maxS, maxValues, maxExponent, wordBytes, metaBytes, Values}
 use Rattle.rules.specs.Decimal.{Pair}
 use Rattle.rules.specs.Page.{vectors, pageOf}
 use Rattle.rules.specs.Verdict.{Rows, no-rows, row, _then_, the-page, in-vector, _below_, _above_, _isnt_, Result, call}
@@ -35,6 +35,12 @@ pub record Inside (fmt : Format) (s : ℕ) (ps : List Pair) (n : ℕ) : Type 0 w
   pub many : n ≤ maxValues
   pub one-each : length ps ≡ vectors s n
   pub allowed : Each (Allowed fmt) ps
+
+-- bs is the page of the values vs, with s and the pairs ps, which are inside the limits
+pub record PageOf (fmt : Format) (bs : List ℕ) (s : ℕ) (ps : List Pair) (vs : List ℕ) : Type 0 where
+  pub inside : Inside fmt s ps (length vs)
+  pub values : Values fmt vs
+  pub page-is : bs ≡ pageOf fmt s ps vs
 
 -- ---- the checks
 

@@ -4,3 +4,4 @@ pub mod Accepted
 pub mod Examined
 pub mod Rounding
 pub mod Nearest
+pub mod OnePage
