@@ -8,3 +8,4 @@ pub mod Read
 pub mod Examine
 pub mod Write
 pub mod Calls
+pub mod Demands

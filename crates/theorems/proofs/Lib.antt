@@ -5,3 +5,5 @@ pub mod Examined
 pub mod Rounding
 pub mod Nearest
 pub mod OnePage
+pub mod Called
+pub mod GivenBy
