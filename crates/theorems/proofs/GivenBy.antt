@@ -26,11 +26,11 @@ layoutRows = 1 ∷ 2 ∷ 3 ∷ 4 ∷ 5 ∷ 6 ∷ 7 ∷ 8 ∷ 9 ∷ 10 ∷ 11 ∷
 -- a number of one list is a number of another that has all of it
 within : (ms ns : List ℕ) → Each (λ (a : ℕ). T (among a ns)) ms → (a : ℕ) → T (among a ms) → T (among a ns)
 within [] ns h a t = absurd t
-within (b ∷ ms) ns h a t = go (eqb a b) (eqb→eq a b) t
+within (b ∷ ms) ns h a t = go (eqb a b) (eqb→eq a b) (within ms ns (h .1) a) t
   where
-    go : (e : Bool) → (T e → a ≡ b) → T (e || among a ms) → T (among a ns)
-    go true f t = subst (λ (x : ℕ). T (among x ns)) (sym (f tt)) (h .0)
-    go false f t = within ms ns (h .1) a t
+    go : (e : Bool) → (T e → a ≡ b) → (T (among a ms) → T (among a ns)) → T (e || among a ms) → T (among a ns)
+    go true f g t = subst (λ (x : ℕ). T (among x ns)) (sym (f tt)) (h .0)
+    go false f g t = g t
 
 module _ (ns : List ℕ) (has : (a : ℕ) → T (among a layoutRows) → T (among a ns)) where
   positions-numbered : (v n : ℕ) (k : Listed) (ps : List ℕ) → Numbered ns (positionsRows v n k ps)
