@@ -7,3 +7,4 @@ pub mod Nearest
 pub mod OnePage
 pub mod Called
 pub mod GivenBy
+pub mod Listing
