@@ -1,23 +1,28 @@
--- The words in which the demands are said (theorems/proofs/Demands states and proves them): what holds of every call with these rows, and
--- what it is that a page lists an exception. Assumes nothing.
+-- The words in which the demands are said (theorems/proofs/Demands states and proves them): what holds of every call, of what it
+-- leaves, and of a byte list that the examiner looks at. Assumes nothing.
 use Prim.Native.Nat.{ℕ, _≤_}
 use mathlib.Core.Path.{_≡_}
 use mathlib.Core.Logic.{_↔_}
-use mathlib.Core.List.{List, [], _∷_}
+use mathlib.Core.List.{List}
 use lib.ListN.{length, take, drop}
 use lib.Dec.{T}
+use lib.Ieee.{Format}
 use Rattle.digits.specs.Lists.{Each}
-use Rattle.rules.specs.Verdict.{Point, Rows, ordered, Passes, FirstTrue, Result, done, refused, call, answer, after}
+use Rattle.rules.specs.Verdict.{Point, Rows, ordered, Passes, FirstTrue, Result, done, refused, after}
 use Rattle.rules.specs.Calls.{among}
+use Rattle.rules.specs.Decimal.{Pair}
+use Rattle.rules.specs.Write.{PageOf}
+use Rattle.rules.specs.Read.{readOf}
+use Rattle.rules.specs.Examine.{examineOf}
 
--- a call with these rows, which may refuse with these numbers and gives xs where it does not
-pub record Answers (rows : Rows) (numbers : List ℕ) (xs : List ℕ) : Type 0 where
-  -- it ends with an answer of the table
-  pub of-the-table : T (among (answer (call rows xs) .number) (0 ∷ numbers))
+-- a call that gave r: its rows, the numbers that it may refuse with, and what it gives where it does not refuse
+pub record Answers (r : Result) (rows : Rows) (numbers : List ℕ) (xs : List ℕ) : Type 0 where
+  -- it ends with an answer of the table: done, or one of its rows
+  pub of-the-table : (a : ℕ) (p : Point) → r ≡ refused a p → T (among a numbers)
   -- a row is given exactly where its condition is true and that of no row before it is
-  pub refuses : (a : ℕ) (p : Point) → call rows xs ≡ refused a p ↔ FirstTrue (ordered rows) a p
+  pub refuses : (a : ℕ) (p : Point) → r ≡ refused a p ↔ FirstTrue (ordered rows) a p
   -- and it is done exactly where no row's condition is true
-  pub is-done : call rows xs ≡ done xs ↔ Each Passes (ordered rows)
+  pub is-done : r ≡ done xs ↔ Each Passes (ordered rows)
 
 -- what a call leaves of a lent output
 pub record Leaves (r : Result) (out : List ℕ) : Type 0 where
@@ -28,3 +33,12 @@ pub record Leaves (r : Result) (out : List ℕ) : Type 0 where
   pub the-rest : (xs : List ℕ) → r ≡ done xs → drop (length xs) (after r out) ≡ drop (length xs) out
   -- there is room for it
   pub same-length : length (after r out) ≡ length out
+
+-- demand 3, of one byte list
+pub record Examines (fmt : Format) (bs : List ℕ) : Type 0 where
+  -- the examiner is done with vs exactly where some s and pairs inside the limits have bs as the page of vs
+  pub accepts : (vs : List ℕ) → examineOf fmt bs ≡ done vs ↔ ((s : ℕ) × (ps : List Pair) × PageOf fmt bs s ps vs)
+  -- there is one such list and one such choice only
+  pub one-only : (s s′ : ℕ) (ps ps′ : List Pair) (vs vs′ : List ℕ) → PageOf fmt bs s ps vs → PageOf fmt bs s′ ps′ vs′ → (s ≡ s′) × (ps ≡ ps′) × (vs ≡ vs′)
+  -- and reading gives it, given room
+  pub reads : (vs : List ℕ) (room : ℕ) → examineOf fmt bs ≡ done vs → length vs ≤ room → readOf fmt room bs ≡ done vs

@@ -1,22 +1,22 @@
 -- Laws of every call: its answer, when it refuses and when it is done, and what it leaves of a lent output. Assumes nothing.
-use mathlib.Core.Path.{_≡_, refl, ap, subst}
-use mathlib.Core.Bool.{Bool, true, false, _||_}
-use mathlib.Core.List.{List, _∷_}
+use mathlib.Core.Path.{_≡_, refl, sym, ap, _∙_, subst}
+use mathlib.Core.Bool.{not}
+use mathlib.Core.List.{List}
 use Prim.Native.Nat.{ℕ, _≤_}
 use native.Mathlib.Omega.{arith}
 use lib.ListN.{length, take, drop}
 use lib.Seq.{take-append-seam, drop-append-seam}
-use lib.Dec.{T, eqb}
-use Rattle.digits.specs.Lists.{over}
+use lib.Dec.{T, T-not}
+use Rattle.rules.specs.declared.Answer.{Answer}
+use Rattle.digits.specs.Lists.{Each, over}
 use Rattle.digits.proofs.Lists.{length-over}
-use Rattle.rules.specs.Verdict.{Point, Rows, Verdict, fine, refuse, verdict, Result, done, refused, settle, answer}
-use Rattle.rules.specs.Calls.{among}
+use Rattle.rules.specs.Verdict.{Point, Rows, Verdict, ordered, Passes, FirstTrue, fine, refuse, verdict, Result, done, refused, settle, call, answer, done-with, refusal}
+use lib.Ieee.{Format}
+use mathlib.Core.Logic.{_⊎_, inl, inr}
+use Rattle.rules.specs.Write.{settingsRows, bound}
+use Rattle.rules.specs.Calls.{among, measured, measureOf, given-by-measuring}
 use Rattle.rules.specs.Demands.{Answers, Leaves}
 use Rattle.theorems.proofs.Ordered.{fine-passes, passes-fine, refuse-first, first-refuses, Numbered, number-given}
-
-or-right : (a b : Bool) → T b → T (a || b)
-or-right true b t = tt
-or-right false b t = t
 
 settle-refused : (v : Verdict) (xs : List ℕ) (a : ℕ) (p : Point) → settle v xs ≡ refused a p → v ≡ refuse a p
 settle-refused fine xs a p e = let o : _≡_ {A = ℕ} 0 1 = cc in absurd (omega arith)
@@ -26,16 +26,12 @@ settle-fine : (v : Verdict) (xs ys : List ℕ) → settle v xs ≡ done ys → v
 settle-fine fine xs ys e = refl
 settle-fine (refuse b q) xs ys e = let o : _≡_ {A = ℕ} 0 1 = cc in absurd (omega arith)
 
-pub answers : (rows : Rows) (numbers xs : List ℕ) → Numbered numbers rows → Answers rows numbers xs
+pub answers : (rows : Rows) (numbers xs : List ℕ) → Numbered numbers rows → Answers (call rows xs) rows numbers xs
 answers rows numbers xs n = record {
-  of-the-table = go (verdict rows) (λ a p e. number-given numbers rows a p n e);
+  of-the-table = λ a p e. number-given numbers rows a p n (settle-refused (verdict rows) xs a p e);
   refuses = λ a p. ((λ e. refuse-first rows a p (settle-refused (verdict rows) xs a p e)), (λ f. ap (λ (v : Verdict). settle v xs) (first-refuses rows a p f)));
   is-done = ((λ e. fine-passes rows (settle-fine (verdict rows) xs xs e)), (λ h. ap (λ (v : Verdict). settle v xs) (passes-fine rows h)));
 }
-  where
-    go : (v : Verdict) → ((a : ℕ) (p : Point) → v ≡ refuse a p → T (among a numbers)) → T (among (answer (settle v xs) .number) (0 ∷ numbers))
-    go fine h = tt
-    go (refuse a p) h = or-right (eqb a 0) (among a numbers) (h a p refl)
 
 pub leaves : (r : Result) (out : List ℕ) → ((xs : List ℕ) → r ≡ done xs → length xs ≤ length out) → Leaves r out
 leaves (done ys) out room = record {
@@ -50,3 +46,26 @@ leaves (refused b q) out room = record {
   the-rest = λ xs e. let o : _≡_ {A = ℕ} 0 1 = cc in absurd (omega arith);
   same-length = refl;
 }
+
+-- where a call's answer has the number 0 it is done, and its place is the count of what it gives
+pub place-when-done : (r : Result) (numbers : List ℕ) → T (not (among 0 numbers)) → ((a : ℕ) (p : Point) → r ≡ refused a p → T (among a numbers))
+    → (a : Answer) → a ≡ answer r → a .number ≡ 0 → {n : ℕ} → ((xs : List ℕ) → r ≡ done xs → length xs ≡ n) → a .place ≡ n
+place-when-done (done xs) numbers never table a is zero count = ap (λ (x : Answer). x .place) is ∙ count xs refl
+place-when-done (refused b p) numbers never table a is zero count =
+    let b-is : b ≡ 0 = sym (ap (λ (x : Answer). x .number) is) ∙ zero in
+    absurd (T-not (among 0 numbers) never (subst (λ (x : ℕ). T (among x numbers)) b-is (table b p refl)))
+
+-- ---- measuring
+
+pub measuring-gives : (fmt : Format) (s : ℕ) (pairs vs : List ℕ) → Numbered given-by-measuring (settingsRows fmt s pairs vs)
+    → ((a : ℕ) × (p : Point) × FirstTrue (ordered (settingsRows fmt s pairs vs)) a p × T (among a given-by-measuring) × (measureOf fmt s pairs vs ≡ refusal a p))
+    ⊎ (Each Passes (ordered (settingsRows fmt s pairs vs)) × (measureOf fmt s pairs vs ≡ done-with (bound fmt s (length vs))))
+unfolding measureOf
+measuring-gives fmt s pairs vs n = go (verdict (settingsRows fmt s pairs vs)) refl
+  where
+    go : (v : Verdict) → verdict (settingsRows fmt s pairs vs) ≡ v
+        → ((a : ℕ) × (p : Point) × FirstTrue (ordered (settingsRows fmt s pairs vs)) a p × T (among a given-by-measuring) × (measured (verdict (settingsRows fmt s pairs vs)) (bound fmt s (length vs)) ≡ refusal a p))
+        ⊎ (Each Passes (ordered (settingsRows fmt s pairs vs)) × (measured (verdict (settingsRows fmt s pairs vs)) (bound fmt s (length vs)) ≡ done-with (bound fmt s (length vs))))
+    go fine e = inr (fine-passes (settingsRows fmt s pairs vs) e, ap (λ (v : Verdict). measured v (bound fmt s (length vs))) e)
+    go (refuse a p) e =
+        inl (a, p, refuse-first (settingsRows fmt s pairs vs) a p e, number-given given-by-measuring (settingsRows fmt s pairs vs) a p n e, ap (λ (v : Verdict). measured v (bound fmt s (length vs))) e)

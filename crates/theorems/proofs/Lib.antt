@@ -8,3 +8,7 @@ pub mod OnePage
 pub mod Called
 pub mod GivenBy
 pub mod Listing
+pub mod Bits
+pub mod Done
+pub mod Examples
+pub mod Demands

@@ -1,0 +1,94 @@
+-- When writer, reader and examiner are done, and what that shows. Assumes nothing.
+use mathlib.Core.Path.{_≡_, sym, ap, _∙_, subst}
+use mathlib.Core.Logic.{_↔_}
+use Prim.Native.Nat.{ℕ, _*_, _≤_}
+use native.Mathlib.Nat.{le-trans, le-of-eq}
+use mathlib.Core.List.{List}
+use lib.ListN.{length}
+use lib.Ieee.{Format}
+use borrow.Author.Tests.{ltb-false, le-ltb}
+use Rattle.rules.specs.Kind.{Bytes, Values}
+use Rattle.rules.specs.Page.{vectors, pageOf, countOf, rawsOf}
+use Rattle.rules.specs.Verdict.{fine, verdict, row, the-page, _below_, done}
+use Rattle.rules.specs.Read.{pageRows, valuesOf, readRows, readOf}
+use Rattle.rules.specs.Examine.{allRulesRows, examineRows, examineOf}
+use Rattle.rules.specs.Write.{pairsOf, Inside, settingsRows, bound, writeRows, writeOf}
+use Rattle.rules.proofs.Rows.{row-fine, first-fine, settle-done}
+use Rattle.rules.proofs.Settings.{settings-pass, settings-fine}
+use Rattle.rules.proofs.Decoded.{values-count}
+use Rattle.theorems.proofs.RoundTrip.{written-length}
+use Rattle.theorems.proofs.Accepted.{read-values}
+
+-- ---- the writer
+
+module _ (fmt : Format) (s : ℕ) (pairs vs : List ℕ) (room : ℕ) where
+  abbrev page : List ℕ
+  page = pageOf fmt s (pairsOf pairs) vs
+
+  abbrev Settled : Type 0
+  Settled = (length pairs ≡ 2 * vectors s (length vs)) × Inside fmt s (pairsOf pairs) (length vs) × (bound fmt s (length vs) ≤ room)
+
+  when-fine : verdict (writeRows fmt s pairs vs room) ≡ fine → Settled
+  unfolding writeRows
+  when-fine e =
+      let a = first-fine (verdict (settingsRows fmt s pairs vs)) _ e in
+      let b = settings-fine fmt s pairs vs (a .0) in
+      (b .0, b .1, ltb-false room (bound fmt s (length vs)) (row-fine 15 the-page (room below bound fmt s (length vs)) (a .1)))
+
+  pub writer-done : (writeOf fmt s pairs vs room ≡ done page) ↔ Settled
+  unfolding writeOf writeRows
+  writer-done = (
+    (λ e. when-fine (settle-done (verdict (writeRows fmt s pairs vs room)) page page e .0)),
+    (λ h. rw (settings-pass fmt s pairs vs (h .0) (h .1), le-ltb room (bound fmt s (length vs)) (h .2))),
+  )
+
+  pub page-when-done : (bs : List ℕ) → writeOf fmt s pairs vs room ≡ done bs → Inside fmt s (pairsOf pairs) (length vs) × (bs ≡ page)
+  unfolding writeOf
+  page-when-done bs e =
+      let d = settle-done (verdict (writeRows fmt s pairs vs room)) page bs e in
+      (when-fine (d .0) .1, sym (d .1))
+
+-- there is room for what it gives
+pub writer-room : (fmt : Format) (s : ℕ) (pairs vs : List ℕ) → Values fmt vs → (room : ℕ) (bs : List ℕ) → writeOf fmt s pairs vs room ≡ done bs → length bs ≤ room
+unfolding writeOf
+writer-room fmt s pairs vs ok room bs e =
+    let d = settle-done (verdict (writeRows fmt s pairs vs room)) (pageOf fmt s (pairsOf pairs) vs) bs e in
+    let h = when-fine fmt s pairs vs room (d .0) in
+    subst (λ (x : List ℕ). length x ≤ room) (d .1) (le-trans (written-length fmt s (pairsOf pairs) vs (h .1) ok) (h .2))
+
+-- ---- the reader
+
+module _ (fmt : Format) (room : ℕ) (bs vs : List ℕ) (e : readOf fmt room bs ≡ done vs) where
+  settled : (verdict (readRows fmt room bs) ≡ fine) × (valuesOf fmt bs ≡ vs)
+  unfolding readOf
+  settled = settle-done (verdict (readRows fmt room bs)) (valuesOf fmt bs) vs e
+
+  halves : (verdict (pageRows fmt bs) ≡ fine) × (verdict (row 15 the-page (room below countOf bs)) ≡ fine)
+  unfolding readRows
+  halves = first-fine (verdict (pageRows fmt bs)) (verdict (row 15 the-page (room below countOf bs))) (settled .0)
+
+  pub read-done : length vs ≡ countOf bs
+  read-done = ap length (sym (settled .1)) ∙ values-count fmt bs
+
+  pub read-values-done : Bytes bs → Values fmt vs
+  read-values-done h = subst (Values fmt) (settled .1) (read-values fmt bs h (halves .0))
+
+  fits-room : length vs ≤ room
+  fits-room = le-trans (le-of-eq read-done) (ltb-false room (countOf bs) (row-fine 15 the-page (room below countOf bs) (halves .1)))
+
+pub reader-room : (fmt : Format) (bs : List ℕ) (room : ℕ) (vs : List ℕ) → readOf fmt room bs ≡ done vs → length vs ≤ room
+reader-room fmt bs room vs e = fits-room fmt room bs vs e
+
+-- ---- the examiner: what it accepts is read
+
+pub examined-reads : (fmt : Format) (bs vs : List ℕ) (room : ℕ) → examineOf fmt bs ≡ done vs → length vs ≤ room → readOf fmt room bs ≡ done vs
+unfolding examineOf examineRows readOf readRows
+examined-reads fmt bs vs room e h =
+    let d = settle-done (verdict (examineRows fmt bs)) (valuesOf fmt bs) vs e in
+    let a = first-fine (verdict (pageRows fmt bs)) (verdict (allRulesRows fmt 0 (rawsOf fmt bs))) (d .0) in
+    let n : countOf bs ≤ room = le-trans (le-of-eq (sym (values-count fmt bs) ∙ ap length (d .1))) h in
+    rw (a .0, le-ltb room (countOf bs) n) (ap done (d .1))
+
+pub examined-count : (fmt : Format) (bs vs : List ℕ) → examineOf fmt bs ≡ done vs → length vs ≡ countOf bs
+unfolding examineOf
+examined-count fmt bs vs e = ap length (sym (settle-done (verdict (examineRows fmt bs)) (valuesOf fmt bs) vs e .1)) ∙ values-count fmt bs

@@ -1,0 +1,64 @@
+-- Two small pages, computed: the page of no values, and the page of the one value zero. Assumes nothing.
+use mathlib.Core.Path.{_≡_, refl}
+use Prim.Native.Nat.{ℕ}
+use mathlib.Core.List.{List, [], _∷_, _++_}
+use lib.ListN.{length, replicate}
+use lib.Ieee.{Format, binary32, binary64}
+use Rattle.digits.specs.Digits.{allDigits}
+use Rattle.rules.specs.Kind.{wordBytes}
+use Rattle.rules.specs.Decimal.{allDecimal}
+use Rattle.rules.specs.Vector.{allVector}
+use Rattle.rules.specs.Page.{bodyOf, metaAt, allPage}
+use Rattle.rules.specs.Verdict.{the-page, done, refused, after}
+use Rattle.rules.specs.Read.{readOf, allRead}
+use Rattle.rules.specs.Examine.{examineOf, allExamine}
+use Rattle.rules.specs.Write.{writeOf, allWrite}
+
+-- R3: the header alone
+abbrev pub nothing : List ℕ
+nothing = 1 ∷ 0 ∷ 0 ∷ 10 ∷ 0 ∷ 0 ∷ 0 ∷ 0 ∷ []
+
+pub nothing-written : (fmt : Format) → writeOf fmt 10 [] [] 8 ≡ done nothing
+unfolding allDigits allDecimal allVector allPage allWrite
+nothing-written binary32 = refl
+nothing-written binary64 = refl
+
+pub nothing-read : (fmt : Format) → readOf fmt 0 nothing ≡ done []
+unfolding allDigits allDecimal allVector allPage allRead
+nothing-read binary32 = refl
+nothing-read binary64 = refl
+
+pub nothing-accepted : (fmt : Format) → examineOf fmt nothing ≡ done []
+unfolding allDigits allDecimal allVector allPage allRead allExamine
+nothing-accepted binary32 = refl
+nothing-accepted binary64 = refl
+
+-- no bytes at all
+pub no-bytes-refused : (fmt : Format) → examineOf fmt [] ≡ refused 1 the-page
+unfolding allDigits allDecimal allVector allPage allRead allExamine
+no-bytes-refused binary32 = refl
+no-bytes-refused binary64 = refl
+
+-- the value 0.0 at s 3, exponent 0, factor 0: frame 0, width 0, and no exception
+abbrev pub zeroPage : Format → List ℕ
+zeroPage fmt = 1 ∷ 0 ∷ 0 ∷ 3 ∷ 1 ∷ 0 ∷ 0 ∷ 0 ∷ 4 ∷ 0 ∷ 0 ∷ 0 ∷ replicate 5 0 ++ replicate (wordBytes fmt) 0
+
+-- the output that it is lent: more than the bound
+abbrev pub roomy : List ℕ
+roomy = replicate 64 0
+
+pub zero-written : (fmt : Format) → writeOf fmt 3 (0 ∷ 0 ∷ []) (0 ∷ []) 64 ≡ done (zeroPage fmt)
+unfolding allDigits allDecimal allVector allPage allWrite
+zero-written binary32 = refl
+zero-written binary64 = refl
+
+pub zero-read : (fmt : Format) → readOf fmt 1 (zeroPage fmt) ≡ done (0 ∷ [])
+unfolding allDigits allDecimal allVector allPage allRead
+zero-read binary32 = refl
+zero-read binary64 = refl
+
+-- the count of exceptions in what the writer leaves
+pub zero-lists-none : (fmt : Format) → metaAt fmt (bodyOf (after (done (zeroPage fmt)) roomy)) .listed ≡ 0
+unfolding allDigits allPage
+zero-lists-none binary32 = refl
+zero-lists-none binary64 = refl
