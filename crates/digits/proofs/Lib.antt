@@ -6,3 +6,4 @@ pub mod Windows
 pub mod Pack
 pub mod Stream
 pub mod Laid
+pub mod Fields

@@ -1,7 +1,7 @@
 -- Laws of lists: facts of every element, and what a stretch put into a list leaves. Assumes nothing.
 use mathlib.Core.Path.{_≡_, sym, ap, ap₂, _∙_}
 use Prim.Native.Nat.{ℕ, zero, suc, _+_, _-_, _<_, _≤_}
-use native.Mathlib.Nat.{add-zero}
+use native.Mathlib.Nat.{add-zero, add-assoc}
 use native.Mathlib.Omega.{arith}
 use mathlib.Core.List.{List, [], _∷_, _++_, map, append-assoc, append-nil}
 use lib.ListN.{length, getD, take, drop, length-append, length-take, length-drop}
@@ -66,6 +66,15 @@ length-putAt a w d h = simp (length-append, length-take, length-drop) (omega ari
 pub put-seam : (p q w : List ℕ) (a : ℕ) → length p ≡ a → putAt a w (p ++ q) ≡ p ++ over w q
 put-seam p q w a e =
     ap₂ (λ (x y : List ℕ). x ++ (w ++ y)) (take-at p q a e) (ap (λ (n : ℕ). drop (n + length w) (p ++ q)) (sym e) ∙ drop-append-add p q (length w))
+
+-- two stretches, one behind the other
+pub put-put : (a : ℕ) (w v d : List ℕ) → a ≤ length d → putAt (a + length w) v (putAt a w d) ≡ putAt a (w ++ v) d
+put-put a w v d h =
+    let done = take a d ++ w in
+    let l : length done ≡ a + length w = simp (length-append, length-take) (omega arith) in
+    ap (putAt (a + length w) v) (sym (append-assoc (take a d) w (drop (a + length w) d)))
+    ∙ put-seam done (drop (a + length w) d) v (a + length w) l
+    ∙ simp (drop-drop, length-append, append-assoc, add-assoc)
 
 -- the part of o that `&mut o[at..]` lends, and o with that part given back as ys
 abbrev pub lent : ℕ → List ℕ → List ℕ

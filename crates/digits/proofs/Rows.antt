@@ -1,16 +1,16 @@
 -- Little-endian numbers, one and several in a row: written and read back, read and written back. Assumes nothing.
 use mathlib.Core.Path.{_≡_, refl, sym, ap, ap₂, _∙_}
-use Prim.Native.Nat.{ℕ, zero, suc, _+_, _*_, _^_, _<_, _≤_}
+use Prim.Native.Nat.{ℕ, zero, suc, _+_, _*_, _/_, _%_, _^_, _<_, _≤_}
 use native.Mathlib.Nat.{suc-mul, zero-mul, add-comm, mod-eq-of-lt}
 use native.Mathlib.Omega.{arith}
 use mathlib.Core.List.{List, [], _∷_, _++_, append-assoc}
 use lib.ListN.{length, take, drop, length-append, length-drop}
 use lib.Seq.{take-at, drop-at, take-add, length-take-le}
 use lib.Dec.{lit<}
-use Rattle.digits.specs.Lists.{Each}
+use Rattle.digits.specs.Lists.{Each, putAt}
 use Rattle.digits.specs.Digits.{toDigits, ofDigits, le, number, les, numbers}
-use Rattle.digits.proofs.Lists.{each-below, each-take, each-drop}
-use Rattle.digits.proofs.Laws.{length-to, of-to, to-of, of-lt}
+use Rattle.digits.proofs.Lists.{each-below, each-take, each-drop, put-put}
+use Rattle.digits.proofs.Laws.{length-to, of-to, to-of, of-lt, to-add}
 
 -- ---- one number
 
@@ -19,6 +19,14 @@ length-le k n = length-to 256 k n
 
 pub number-le : (k n : ℕ) → n < 256 ^ k → number (le k n) ≡ n
 number-le k n l = of-to 256 k n (lit< tt) ∙ mod-eq-of-lt l
+
+-- a number put in two parts, its m low bytes and the n above them
+pub put-parts : (m n v at : ℕ) (d : List ℕ) → at ≤ length d → putAt (at + m) (le n (v / 256 ^ m)) (putAt at (le m (v % 256 ^ m)) d) ≡ putAt at (le (m + n) v) d
+put-parts m n v at d h =
+    let low = le m (v % 256 ^ m) in
+    ap (λ (k : ℕ). putAt (at + k) (le n (v / 256 ^ m)) (putAt at low d)) (sym (length-le m (v % 256 ^ m)))
+    ∙ put-put at low (le n (v / 256 ^ m)) d h
+    ∙ ap (λ (w : List ℕ). putAt at w d) (sym (to-add 256 m n v (lit< tt)))
 
 module _ (bs : List ℕ) (h : Each (λ (b : ℕ). b < 256) bs) where
   pub le-number : (k : ℕ) → length bs ≡ k → le k (number bs) ≡ bs

@@ -1,20 +1,25 @@
 -- Digits stored into a list one after the other, and a number put into a list of digits. Assumes nothing.
 use mathlib.Core.Path.{_≡_, refl, sym, ap, ap₂, _∙_, subst}
-use mathlib.Core.List.{List, [], _∷_, _++_}
+use mathlib.Core.List.{List, [], _∷_, _++_, append-assoc}
 use Prim.Native.Nat.{ℕ, zero, suc, _+_, _*_, _/_, _%_, _^_, _≤_, _<_}
 use native.Mathlib.Nat.{le-of-suc-le-suc, not-suc-le-zero, mod-lt, pow-zero, pow-suc, pow-succ', one-le-pow, zero-add, add-zero, mul-one, mul-assoc, add-assoc, add-mul, lt-of-le-of-lt, zero-mul, suc-add, add-suc, mul-le-mul-right, pow-le-pow-right, le-add-right, lt-of-mul-lt-mul-right, div-add-mod', div-mul-le-self, lt-of-not-le, not-le-of-lt, le-of-suc-le}
 use native.Mathlib.Numerals.{add-one}
 use native.Mathlib.Omega.{arith}
 use lib.Arith.{digits-lt}
-use lib.ListN.{length, getD, take, set, replicate}
-use lib.Seq.{length-take-le, sets, take-suc}
+use lib.ListN.{length, getD, take, drop, set, replicate}
+use lib.Seq.{length-take-le, sets, sets-eq, take-suc}
 use lib.Pow.{pow-pos}
 use Rattle.digits.specs.Digits.{ofDigits, toDigits, Below}
+use Rattle.digits.specs.Lists.{putAt}
 use Rattle.digits.proofs.Laws.{length-to, to-snoc, of-take, of-append, to-add, pow-mul}
 
 pub sets-append : (l : List ℕ) (i : ℕ) (xs ys : List ℕ) → sets l i (xs ++ ys) ≡ sets (sets l i xs) (i + length xs) ys
 sets-append l i [] ys = ap (λ (k : ℕ). sets l k ys) (sym (add-zero i))
 sets-append l i (x ∷ xs) ys = sets-append (set l i x) (suc i) xs ys ∙ ap (λ (k : ℕ). sets (sets (set l i x) (suc i) xs) k ys) (suc-add i (length xs) ∙ sym (add-suc i (length xs)))
+
+-- digits stored one by one are put as one stretch
+pub sets-put : (vs l : List ℕ) (i : ℕ) → i + length vs ≤ length l → sets l i vs ≡ putAt i vs l
+sets-put vs l i h = sets-eq vs l i h ∙ append-assoc (take i l) vs (drop (i + length vs) l)
 
 -- a number stored in two halves, m digits and n
 pub sets-add : (b m n N : ℕ) (l : List ℕ) (i : ℕ) → zero < b → sets (sets l i (toDigits b m (N % b ^ m))) (i + m) (toDigits b n (N / b ^ m)) ≡ sets l i (toDigits b (m + n) N)

@@ -6,7 +6,7 @@ use native.Mathlib.Nat.{mod-lt, add-zero, mul-zero, mul-assoc, add-assoc, add-mu
 use native.Mathlib.Decide.{decLt}
 use native.Mathlib.Omega.{arith}
 use lib.Arith.{digits-lt}
-use lib.Dec.{eqb, ltb}
+use lib.Dec.{eqb, ltb, lit<}
 use borrow.Author.Tests.{lt-ltb, le-ltb, ne-eqb}
 use mathlib.Core.Logic.{_⊎_, inl, inr, ⊎-elim}
 use lib.ListN.{getD, take, drop}
@@ -113,6 +113,13 @@ pub bit-of : (u : ℕ) (xs : List ℕ) (k : ℕ) → zero < u → Below (2 ^ u) 
 bit-of u xs k hu h =
     let l : k % u < u = mod-lt k hu in
     window-of u xs (k / u) (k % u) 1 h (omega arith) ∙ ap (λ (x : ℕ). ofDigits (2 ^ u) xs / 2 ^ x % 2) (div-add-mod k u)
+
+-- bit start + j of some bytes, where the byte of bit `start` is taken apart from the rest
+pub bit-apart : (bs : List ℕ) (start j : ℕ) → Below 256 bs → getD bs (start / 8 + (start % 8 + j) / 8) 0 / 2 ^ ((start % 8 + j) % 8) % 2 ≡ ofDigits 256 bs / 2 ^ (start + j) % 2
+bit-apart bs start j h =
+    let q : start / 8 + (start % 8 + j) / 8 ≡ (start + j) / 8 = omega arith in
+    let r : (start % 8 + j) % 8 ≡ (start + j) % 8 = omega arith in
+    ap₂ (λ (x y : ℕ). getD bs x 0 / 2 ^ y % 2) q r ∙ bit-of 8 bs (start + j) (lit< tt) h
 
 -- a window, from the one that starts a bit later
 pub horner : (N p p′ m m′ : ℕ) {a d : ℕ} → p′ ≡ p + 1 → m′ ≡ m + 1 → a ≡ N / 2 ^ p′ % 2 ^ m → d ≡ N / 2 ^ p % 2 → a * 2 + d ≡ N / 2 ^ p % 2 ^ m′

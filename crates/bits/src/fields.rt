@@ -1,0 +1,47 @@
+// Packed fields written one after the other, straight into the part of the output that they fill: `clear` it, then `put` each field at
+// the bit where the last one ended. The part is then `pack` of the fields (`Packing` in the proofs of `digits`).
+ghost use mathlib.Core.Path.{_≡_};
+ghost use Prim.Native.Nat.{_+_, _*_, _^_, _≤_, _<_};
+ghost use lib.ListN.{length, replicate};
+ghost use lib.Ieee.{size};
+ghost use Rattle.digits.specs.Digits.{number};
+
+// Every byte becomes 0.
+pub fn clear(out: &mut [u8])
+    ensures { λ _. ⌜ now (out .exit) ≡ replicate (length (now (out .entry))) 0 ⌝ }
+{
+    let mut i: usize = 0;
+    while i < out.len() {
+        out[i] = 0;
+        i += 1;
+    }
+}
+
+// The number v from byte `at` on, where all is 0 from there on; bytes that v does not reach stay.
+fn put_bytes(out: &mut [u8], at: usize, v: u64)
+    requires { ⌜ (number (now out) < 256 ^ at) × (v * 256 ^ at < 256 ^ length (now out)) ⌝ }
+    ensures { λ _. ⌜ number (now (out .exit)) ≡ v * 256 ^ at + number (now (out .entry)) ⌝ }
+{
+    let mut rest = v;
+    let mut i = at;
+    while 0 < rest {
+        out[i] = (rest % 256) as u8;
+        rest = rest / 256;
+        i += 1;
+    }
+}
+
+// The field v from bit `start` on, where all is 0 from there on and there is room for v's bits. The bits below `start` stay: the slice's
+// length and the number that it spells settle every byte.
+pub fn put(out: &mut [u8], start: usize, v: u64)
+    requires { ⌜ (start + size v ≤ 8 * length (now out)) × (number (now out) < 2 ^ start) ⌝ }
+    ensures { λ _. ⌜ number (now (out .exit)) ≡ v * 2 ^ start + number (now (out .entry)) ⌝ }
+{
+    if 0 < v {
+        let q = start / 8;
+        let r = start % 8;
+        let low = ((v << r) % 256) as u8;
+        out[q] = out[q] + low;
+        put_bytes(out, q + 1, v >> (8 - r));
+    }
+}
