@@ -17,7 +17,7 @@ pub fn clear(out: &mut [u8])
     }
 }
 
-// The number v from byte `at` on, where all is 0 from there on; bytes that v does not reach stay.
+// The number v from byte `at` on, where all is 0 from there on and there is room for it.
 fn put_bytes(out: &mut [u8], at: usize, v: u64)
     requires { ⌜ (number (now out) < 256 ^ at) × (v * 256 ^ at < 256 ^ length (now out)) ⌝ }
     ensures { λ _. ⌜ number (now (out .exit)) ≡ v * 256 ^ at + number (now (out .entry)) ⌝ }
@@ -31,17 +31,17 @@ fn put_bytes(out: &mut [u8], at: usize, v: u64)
     }
 }
 
-// The field v from bit `start` on, where all is 0 from there on and there is room for v's bits. The bits below `start` stay: the slice's
-// length and the number that it spells settle every byte.
+// The field v from bit `start` on, where all is 0 from there on and there is room for v's bits. What stands below `start` stays: the
+// number that the slice spells, and its length, settle every byte. A field that is 0 changes nothing, and needs no byte.
 pub fn put(out: &mut [u8], start: usize, v: u64)
     requires { ⌜ (start + size v ≤ 8 * length (now out)) × (number (now out) < 2 ^ start) ⌝ }
     ensures { λ _. ⌜ number (now (out .exit)) ≡ v * 2 ^ start + number (now (out .entry)) ⌝ }
 {
     if 0 < v {
-        let q = start / 8;
-        let r = start % 8;
-        let low = ((v << r) % 256) as u8;
-        out[q] = out[q] + low;
-        put_bytes(out, q + 1, v >> (8 - r));
+        let first = start / 8;
+        let skip = start % 8;
+        let low = ((v << skip) % 256) as u8;
+        out[first] = out[first] + low;
+        put_bytes(out, first + 1, v >> (8 - skip));
     }
 }

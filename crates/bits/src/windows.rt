@@ -5,8 +5,8 @@ ghost use lib.ListN.{length};
 ghost use lib.Dec.{ltb};
 ghost use Rattle.digits.specs.Digits.{number, packedSize, unpack};
 
-// The `width` bits from bit `start` on, as a number. The loop takes the highest bit first, so that each turn doubles and adds. The byte of
-// the first bit is taken apart from the rest: a count of bits may pass the largest usize where a count of bytes does not.
+// The `width` bits from bit `start` on, as a number. The loop takes the highest bit first, so that each turn doubles and adds. It counts
+// bits from the byte where the window starts, since start + j could pass the largest usize.
 pub fn window(bytes: &[u8], start: usize, width: usize) -> u64
     requires { ⌜ (width ≤ 64) × (start + width ≤ 8 * length (now bytes)) ⌝ }
     ensures { λ r. ⌜ r ≡ number (now (bytes .entry)) / 2 ^ start % 2 ^ width ⌝ }
@@ -24,7 +24,7 @@ pub fn window(bytes: &[u8], start: usize, width: usize) -> u64
     acc
 }
 
-// As many fields as `out` has room for: the caller lends it exactly its values.
+// As many fields as `out` has places: the caller lends exactly those. They are fewer than 2 ^ 32, so that a usize counts their bits.
 pub fn unpack32(packed: &[u8], width: usize, out: &mut [u32])
     requires { ⌜ (width ≤ 32) × (length (now out) < 2 ^ 32) × (length (now out) * width ≤ 8 * length (now packed)) ⌝ }
     ensures { λ _. ⌜ now (out .exit) ≡ unpack width (length (now (out .entry))) (now (packed .entry)) ⌝ }
@@ -38,7 +38,7 @@ pub fn unpack32(packed: &[u8], width: usize, out: &mut [u32])
     }
 }
 
-// The same at 64 bits.
+// The same into 64-bit places.
 pub fn unpack64(packed: &[u8], width: usize, out: &mut [u64])
     requires { ⌜ (width ≤ 64) × (length (now out) < 2 ^ 32) × (length (now out) * width ≤ 8 * length (now packed)) ⌝ }
     ensures { λ _. ⌜ now (out .exit) ≡ unpack width (length (now (out .entry))) (now (packed .entry)) ⌝ }
@@ -52,7 +52,7 @@ pub fn unpack64(packed: &[u8], width: usize, out: &mut [u64])
     }
 }
 
-// Whether the unused bits, those of the last byte past `count` fields, are 0.
+// Whether the unused bits, those of the last byte behind `count` fields, are 0.
 pub fn unused_clear(packed: &[u8], width: usize, count: usize) -> bool
     requires { ⌜ (width ≤ 64) × (count < 2 ^ 32) × (length (now packed) ≡ packedSize count width) ⌝ }
     ensures { λ r. ⌜ r ≡ ltb (number (now (packed .entry))) (2 ^ (count * width)) ⌝ }

@@ -1,12 +1,13 @@
 -- Fields read or written one after the other, at a running bit: how far a loop has come, and what it has made by then. Assumes nothing.
 use mathlib.Core.Path.{_≡_, refl, sym, ap, ap₂, _∙_}
 use mathlib.Core.List.{List, [], _∷_, _++_}
-use Prim.Native.Nat.{ℕ, _+_, _*_, _/_, _%_, _^_, _≤_, _<_}
+use Prim.Native.Nat.{ℕ, zero, suc, _+_, _*_, _/_, _%_, _^_, _≤_, _<_}
 use native.Mathlib.Nat.{mul-zero, mul-suc, mul-le-mul}
 use native.Mathlib.Numerals.{add-one}
 use native.Mathlib.Omega.{arith}
 use lib.ListN.{length, getD, take, set, length-set, replicate, length-replicate}
 use lib.Seq.{take-suc-set, take-all}
+use lib.Dec.{lit<}
 use lib.Ieee.{size}
 use lib.Ieee.Digits.{size-le}
 use Rattle.digits.specs.Digits.{ofDigits, toDigits, number, packedSize, pack, unpack, Below}
@@ -69,37 +70,46 @@ module _ (w : ℕ) (bs out₀ : List ℕ) (i start : ℕ) (out : List ℕ) (u : 
 -- ---- written: `out` has the packed part's length and holds the first i fields of fs, and the next one goes to bit `start`
 
 pub record Packing (w : ℕ) (fs : List ℕ) (i start : ℕ) (out : List ℕ) : Type 0 where
+  pub bytes : Below 256 out
   pub long : length out ≡ packedSize (length fs) w
   pub from : start ≡ w * i
   pub holds : number out ≡ ofDigits (2 ^ w) (take i fs)
 
+zeros-below : (n : ℕ) → Below 256 (replicate n 0)
+zeros-below zero i = lit< tt
+zeros-below (suc n) zero = lit< tt
+zeros-below (suc n) (suc i) = zeros-below n i
+
+-- a cleared part
 pub packing-start : (w : ℕ) (fs out : List ℕ) (n : ℕ) → n ≡ packedSize (length fs) w → out ≡ replicate n 0 → Packing w fs 0 0 out
 unfolding ofDigits
 packing-start w fs out n e z = record {
+  bytes = rw z (zeros-below n);
   long = ap length z ∙ length-replicate n 0 ∙ e;
   from = sym (mul-zero w);
   holds = ap number z ∙ of-zeros 256 n;
 }
 
-module _ (w : ℕ) (fs : List ℕ) (i start : ℕ) (out : List ℕ) (p : Packing w fs i start out) (below : Below (2 ^ w) fs) where
+module _ (w : ℕ) (fs : List ℕ) (i start : ℕ) (out : List ℕ) (p : Packing w fs i start out) where
   -- all is 0 from the next field's first bit on
-  pub packing-free : number out < 2 ^ start
-  packing-free = rw (p .holds) (of-take-lt w fs i start below (p .from))
+  pub packing-free : Below (2 ^ w) fs → number out < 2 ^ start
+  packing-free below = rw (p .holds) (of-take-lt w fs i start below (p .from))
 
   module _ (v : ℕ) (h : i < length fs) (e : v ≡ getD fs i 0) where
-    pub packing-room : start + size v ≤ 8 * length out
-    packing-room =
-        let s : size v ≤ w = size-le v w (rw e (below i)) in
-        omega (arith, p .long, start-room w i start (p .from) (length fs) h)
+    pub packing-room : v < 2 ^ w → start + size v ≤ 8 * length out
+    packing-room l = omega (arith, size-le v w l, p .long, start-room w i start (p .from) (length fs) h)
 
-    pub packing-next : (out′ : List ℕ) → length out′ ≡ length out → number out′ ≡ v * 2 ^ start + number out → Packing w fs (i + 1) (start + w) out′
-    packing-next out′ l q = record {
+    -- the next field has been put: `number out′ ≡ v * 2 ^ start + number out`
+    pub packing-next : (out′ : List ℕ) → Below 256 out′ → length out′ ≡ length out → number out′ ≡ v * 2 ^ start + number out → Packing w fs (i + 1) (start + w) out′
+    packing-next out′ b l q = record {
+      bytes = b;
       long = l ∙ p .long;
       from = start-next w i start (p .from);
       holds = q ∙ ap₂ (λ (x y : ℕ). x * 2 ^ start + y) e (p .holds) ∙ ap (λ (x : ℕ). getD fs i 0 * x + ofDigits (2 ^ w) (take i fs)) (ap (λ (x : ℕ). 2 ^ x) (p .from) ∙ sym (pow-mul 2 w i))
           ∙ sym (of-take-next (2 ^ w) fs i h);
     }
 
-  pub packing-end : Below 256 out → length fs ≤ i → out ≡ pack w fs
-  packing-end h l =
-      sym (to-of 256 out h) ∙ ap₂ (λ (k n : ℕ). toDigits 256 k n) (p .long) (p .holds ∙ ap (ofDigits (2 ^ w)) (take-all i fs l))
+  -- all are put
+  pub packing-end : length fs ≤ i → out ≡ pack w fs
+  packing-end l =
+      sym (to-of 256 out (p .bytes)) ∙ ap₂ (λ (k n : ℕ). toDigits 256 k n) (p .long) (p .holds ∙ ap (ofDigits (2 ^ w)) (take-all i fs l))

@@ -2,14 +2,16 @@
 use mathlib.Core.Path.{_≡_, refl, sym, ap, ap₂, _∙_}
 use Prim.Native.Nat.{ℕ, zero, suc, _+_, _*_, _/_, _%_, _^_, _<_, _≤_}
 use native.Mathlib.Nat.{suc-mul, zero-mul, add-comm, mod-eq-of-lt}
+use native.Mathlib.Numerals.{add-one}
 use native.Mathlib.Omega.{arith}
 use mathlib.Core.List.{List, [], _∷_, _++_, append-assoc}
-use lib.ListN.{length, take, drop, length-append, length-drop}
+use lib.ListN.{length, take, drop, set, length-append, length-drop}
 use lib.Seq.{take-at, drop-at, take-add, length-take-le}
 use lib.Dec.{lit<}
 use Rattle.digits.specs.Lists.{Each, putAt}
 use Rattle.digits.specs.Digits.{toDigits, ofDigits, le, number, les, numbers}
 use Rattle.digits.proofs.Lists.{each-below, each-take, each-drop, put-put}
+use Rattle.digits.proofs.Stores.{sets-put}
 use Rattle.digits.proofs.Laws.{length-to, of-to, to-of, of-lt, to-add}
 
 -- ---- one number
@@ -19,6 +21,13 @@ length-le k n = length-to 256 k n
 
 pub number-le : (k n : ℕ) → n < 256 ^ k → number (le k n) ≡ n
 number-le k n l = of-to 256 k n (lit< tt) ∙ mod-eq-of-lt l
+
+-- two bytes stored one by one
+pub put-two-bytes : (v at : ℕ) (d : List ℕ) → v < 65536 → at + 2 ≤ length d → set (set d at (v % 256)) (at + 1) (v / 256) ≡ putAt at (le 2 v) d
+unfolding toDigits
+put-two-bytes v at d hv h =
+    let high : v / 256 < 256 = omega arith in
+    rw (← (sets-put (le 2 v) d at (omega arith))) (simp (add-one, mod-eq-of-lt high))
 
 -- a number put in two parts, its m low bytes and the n above them
 pub put-parts : (m n v at : ℕ) (d : List ℕ) → at ≤ length d → putAt (at + m) (le n (v / 256 ^ m)) (putAt at (le m (v % 256 ^ m)) d) ≡ putAt at (le (m + n) v) d

@@ -13,13 +13,13 @@ use Rattle.bits.proofs.fields.clear.Reads as reads
 use Rattle.bits.proofs.fields.clear.Lts as lts
 
 abbrev Inv-loop : tie.InvT-loop
-Inv-loop out₀ i₀ out i = (i ≤ length out₀) × (length out ≡ length out₀) × (out ≡ replicate i 0 ++ drop i out₀)
+Inv-loop out₀ i₀ out i = (out ≡ replicate i 0 ++ drop i out₀) × (i ≤ length out₀) × (length out ≡ length out₀)
 
 abbrev μ-loop : tie.MeasureT-loop
 μ-loop out₀ i₀ out i = length out₀ - i
 
 loop-holds : tie.Need-loop-holds Inv-loop μ-loop
-loop-holds c = (omega arith, refl, refl)
+loop-holds c = (refl, omega arith, refl)
 
 slice-write-out : tie.Need-slice-write-out Inv-loop μ-loop
 slice-write-out c = omega arith
@@ -34,17 +34,17 @@ loop-again : tie.Need-loop-again Inv-loop μ-loop
 loop-again c =
     let l = c .before .loop in
     let d = now (c .before .before .args .out) in
-    (omega arith, simp length-set (l .inv .1), ap (λ (o : List ℕ). set o (l .i) 0) (l .inv .2) ∙ fill-more (l .i) 0 d (omega arith))
+    (ap (λ (o : List ℕ). set o (l .i) 0) (l .inv .0) ∙ fill-more (l .i) 0 d (omega arith), omega arith, simp length-set (l .inv .2))
 
 same-length : tie.Need-same-length Inv-loop μ-loop
-same-length c = c .before .loop .inv .1
+same-length c = c .before .loop .inv .2
 
 returns : tie.Need-returns Inv-loop μ-loop
 returns c =
     let l = c .before .loop in
     let d = now (c .before .before .args .out) in
     let e : l .i ≡ length d = omega arith in
-    l .inv .2 ∙ ap (λ (k : ℕ). replicate k 0 ++ drop k d) e ∙ ap (λ (t : List ℕ). replicate (length d) 0 ++ t) (drop-length d) ∙ append-nil (replicate (length d) 0)
+    l .inv .0 ∙ ap (λ (k : ℕ). replicate k 0 ++ drop k d) e ∙ ap (λ (t : List ℕ). replicate (length d) 0 ++ t) (drop-length d) ∙ append-nil (replicate (length d) 0)
 
 pub clear-spec : {M : Type 1} → statement M
 clear-spec =

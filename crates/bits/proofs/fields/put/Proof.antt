@@ -62,15 +62,20 @@ cast-low : tie.Need-cast-low
 cast-low c = search needs
 
 slice-read-out : tie.Need-slice-read-out
-slice-read-out c = at-byte (now (c .before .before .before .args .out)) (c .before .before .before .args .start) (c .before .before .before .args .v) (c .before .if1 .taken) (c .before .before .before .pre .0) (c .before .before .before .pre .1)
+slice-read-out c =
+    let s = c .before .before .before in
+    at-byte (now (s .args .out)) (s .args .start) (s .args .v) (c .before .if1 .taken) (s .pre .0) (s .pre .1)
 
 add-out : tie.Need-add-out
 add-out c =
-    let a = c .before .before .before .args in
-    record { fits = byte-fits (now (a .out)) (a .start) (a .v) (c .before .if1 .taken) (c .before .before .before .pre .0) (c .before .before .before .pre .1) (λ i. c .slice-known2 .given i .fits) }
+    let s = c .before .before .before in
+    let fits = byte-fits (now (s .args .out)) (s .args .start) (s .args .v) (c .before .if1 .taken) (s .pre .0) (s .pre .1) (λ i. c .slice-known2 .given i .fits) in
+    record { fits = fits }
 
 slice-write-out : tie.Need-slice-write-out
-slice-write-out c = at-byte (now (c .before .before .before .args .out)) (c .before .before .before .args .start) (c .before .before .before .args .v) (c .before .if1 .taken) (c .before .before .before .pre .0) (c .before .before .before .pre .1)
+slice-write-out c =
+    let s = c .before .before .before in
+    at-byte (now (s .args .out)) (s .args .start) (s .args .v) (c .before .if1 .taken) (s .pre .0) (s .pre .1)
 
 add-put-bytes : tie.Need-add-put-bytes
 add-put-bytes c = search needs
@@ -83,22 +88,21 @@ shr-put-bytes c = search needs
 
 put-bytes-requires : tie.Need-put-bytes-requires
 put-bytes-requires c κs =
-    let a = c .before .before .before .before .args in
-    rest-room (now (a .out)) (a .start) (a .v) (c .before .before .if1 .taken) (c .before .before .before .before .pre .0) (c .before .before .before .before .pre .1)
+    let s = c .before .before .before .before in
+    rest-room (now (s .args .out)) (s .args .start) (s .args .v) (c .before .before .if1 .taken) (s .pre .0) (s .pre .1)
 
 same-length : tie.Need-same-length
 same-length c = c .before .before .put-bytes .kept .0 ∙ simp length-set
 
 returns : tie.Need-returns
 returns c =
-    let a = c .before .before .before .before .before .before .before .args in
-    c .before .before .put-bytes .ensures ∙ all-put (now (a .out)) (a .start) (a .v) (c .before .before .before .before .before .if1 .taken) (c .before .before .before .before .before .before .before .pre .0) (c .before .before .before .before .before .before .before .pre .1)
+    let s = c .before .before .before .before .before .before .before in
+    c .before .before .put-bytes .ensures ∙ all-put (now (s .args .out)) (s .args .start) (s .args .v) (c .before .before .before .before .before .if1 .taken) (s .pre .0) (s .pre .1)
 
 returns-2 : tie.Need-returns-2
 returns-2 c =
-    let a = c .before .before .args in
-    let e : a .v ≡ 0 = omega arith in
-    sym (ap (λ (x : ℕ). x * 2 ^ a .start + number (now (a .out))) e ∙ ap (λ (x : ℕ). x + number (now (a .out))) (zero-mul (2 ^ a .start)) ∙ zero-add (number (now (a .out))))
+    let none : c .before .before .args .v ≡ 0 = omega arith in
+    rw (none, zero-mul, zero-add)
 
 pub put-spec : {M : Type 1} → statement M
 put-spec =

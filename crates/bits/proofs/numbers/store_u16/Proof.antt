@@ -1,12 +1,8 @@
 -- `numbers::store_u16` meets its contract: two digits stored one by one are put as one stretch. Assumes nothing.
-use Prim.Native.Nat.{_/_, _<_}
-use native.Mathlib.Nat.{mod-eq-of-lt}
-use native.Mathlib.Numerals.{add-one}
 use native.Mathlib.Omega.{arith}
 use lib.ListN.{length-set}
 use denote.Ref.{now}
-use Rattle.digits.specs.Digits.{toDigits, le}
-use Rattle.digits.proofs.Stores.{sets-put}
+use Rattle.digits.proofs.Rows.{put-two-bytes}
 use borrow.Author.Needs.{needs}
 use Rattle.bits.proofs.numbers.store_u16.Statement.{statement}
 use Rattle.bits.proofs.numbers.store_u16.Tie as tie
@@ -32,11 +28,7 @@ same-length : tie.Need-same-length
 same-length c = search needs
 
 returns : tie.Need-returns
-unfolding toDigits
-returns c =
-    let a = c .args in
-    let high : a .v / 256 < 256 = omega arith in
-    rw (← (sets-put (le 2 (a .v)) (now (a .out)) (a .at) (omega arith))) (simp (add-one, mod-eq-of-lt high))
+returns c = put-two-bytes (c .args .v) (c .args .at) (now (c .args .out)) (omega arith) (omega arith)
 
 pub store-u16-spec : {M : Type 1} → statement M
 store-u16-spec =
