@@ -9,3 +9,5 @@ pub mod Examine
 pub mod Write
 pub mod Calls
 pub mod Demands
+pub mod Recordings
+pub mod Edges

@@ -1,0 +1,548 @@
+-- A second table of calls with what each must give: what the starred recordings leave open. It pins the arithmetic where a likely mistake
+-- shows, the shapes of a page, every row with its vector number and place, and the order of the rows. Assumes nothing.
+use Prim.Native.Nat.{ℕ, zero, suc, _+_}
+use mathlib.Core.Path.{_≡_, refl}
+use mathlib.Core.Bool.{true}
+use mathlib.Core.List.{List, [], _∷_, _++_}
+use lib.ListN.{replicate}
+use lib.Ieee.{binary32, binary64}
+use Rattle.rules.specs.Verdict.{the-page, in-vector, in-vector-at, done, refused, done-with, refusal}
+use Rattle.rules.specs.Recordings.{hex, Line, writes, measures, reads, examines, written, flawed, faulty, allHold, allRules}
+
+-- ---- parts that many pages share, so that a line shows what is its own
+
+-- header and offset of a page of one vector at s 10, of n values (n below 256)
+abbrev pub front : ℕ → List ℕ
+front n = hex 4 0x01_00_00_0A ++ (n ∷ hex 3 0) ++ hex 4 0x04_00_00_00
+
+-- a 32-bit page of two vectors at s 3 up to its second vector, of n values: header, offsets, and a first vector of eight times 7.0
+abbrev pub behind : ℕ → List ℕ
+behind n =
+    hex 4 0x01_00_00_03 ++ ((8 + n) ∷ hex 3 0) ++ hex 8 0x08_00_00_00_11_00_00_00 ++ hex 4 0x00_00_00_00 ++ hex 5 0x07_00_00_00_00
+
+abbrev pub sevens : List ℕ
+sevens = replicate 8 0x40E00000
+
+-- n positions from i on, two bytes each (below 256)
+unfoldable pub rising : ℕ → ℕ → List ℕ
+rising i zero = []
+rising i (suc n) = i ∷ 0 ∷ rising (suc i) n
+
+-- ---- from a value to a whole number: pages of one value, so that the frame is its whole number (or the value is listed)
+
+unfoldable pub arithmetic : List Line
+arithmetic =
+    -- 481.9323, e 5, f 1: 4,819,323.5 after two multiplications, and so 4,819,324, which does not come back; after one, 4,819,323, which would
+    written binary32 10 (5 ∷ 1 ∷ []) (0x43F0F756 ∷ [])
+    (front 1 ++ hex 4 0x05_01_01_00 ++ hex 5 0x00_00_00_00_00 ++ hex 2 0x00_00 ++ hex 4 0x56_F7_F0_43)
+    -- 1483887.625, e 2, f 1: 14,838,877 after two multiplications, 14,838,876 after one
+    ∷ written binary32 10 (2 ∷ 1 ∷ []) (0x49B5237D ∷ []) (front 1 ++ hex 4 0x02_01_00_00 ++ hex 5 0x5D_6C_E2_00_00)
+    -- 64-bit 2390.338921458191, e 13, f 1: as in the first line, with 2,390,338,921,458,191.5 after two multiplications
+    ∷ written binary64 10 (13 ∷ 1 ∷ []) (0x40A2ACAD871D05B0 ∷ [])
+    (front 1 ++ hex 4 0x0D_01_01_00 ++ hex 9 0x00_00_00_00_00_00_00_00_00 ++ hex 2 0x00_00 ++ hex 8 0xB0_05_1D_87_AD_AC_A2_40)
+    -- 5751.0, e 5, f 1: 57,510,004 where each product is rounded, 57,510,000 where only the last is
+    ∷ written binary32 10 (5 ∷ 1 ∷ []) (0x45B3B800 ∷ []) (front 1 ++ hex 4 0x05_01_00_00 ++ hex 5 0x74_88_6D_03_00)
+    -- 64-bit 684.2, e 14, f 1: 6,842,000,000,000,001 after two multiplications, one less after one
+    ∷ written binary64 10 (14 ∷ 1 ∷ []) (0x408561999999999A ∷ []) (front 1 ++ hex 4 0x0E_01_00_00 ++ hex 9 0x01_A0_8D_43_C3_4E_18_00_00)
+    -- 94.0, e 6, f 1: 9,400,000; an exception if 10^-f came first
+    ∷ written binary32 10 (6 ∷ 1 ∷ []) (0x42BC0000 ∷ []) (front 1 ++ hex 4 0x06_01_00_00 ++ hex 5 0xC0_6E_8F_00_00)
+    -- 4980337.0, e 2, f 1: 49,803,372 by the nearest float to 0.1; an exception by a division by 10
+    ∷ written binary32 10 (2 ∷ 1 ∷ []) (0x4A97FCE2 ∷ []) (front 1 ++ hex 4 0x02_01_00_00 ++ hex 5 0x6C_F0_F7_02_00)
+    -- 0.9, e 1: 9 times the nearest float to 0.1 is another value; a division by 10 would bring it back
+    ∷ written binary32 10 (1 ∷ 0 ∷ []) (0x3F666666 ∷ [])
+    (front 1 ++ hex 4 0x01_00_01_00 ++ hex 5 0x00_00_00_00_00 ++ hex 2 0x00_00 ++ hex 4 0x66_66_66_3F)
+    -- 0.9, e 2, f 1: 9, which comes back as 9 x 10 x 0.01
+    ∷ written binary32 10 (2 ∷ 1 ∷ []) (0x3F666666 ∷ []) (front 1 ++ hex 4 0x02_01_00_00 ++ hex 5 0x09_00_00_00_00)
+    -- 64-bit 0.3, e 1: an exception, as 0.9 is above
+    ∷ written binary64 10 (1 ∷ 0 ∷ []) (0x3FD3333333333333 ∷ [])
+    (front 1 ++ hex 4 0x01_00_01_00 ++ hex 9 0x00_00_00_00_00_00_00_00_00 ++ hex 2 0x00_00 ++ hex 8 0x33_33_33_33_33_33_D3_3F)
+    -- 64-bit 0.3, e 2, f 1: 3
+    ∷ written binary64 10 (2 ∷ 1 ∷ []) (0x3FD3333333333333 ∷ []) (front 1 ++ hex 4 0x02_01_00_00 ++ hex 9 0x03_00_00_00_00_00_00_00_00)
+    -- 8359.9, e 3: 8,359,900.5, a tie, to even, which is down
+    ∷ written binary32 10 (3 ∷ 0 ∷ []) (0x46029F9A ∷ []) (front 1 ++ hex 4 0x03_00_00_00 ++ hex 5 0xDC_8F_7F_00_00)
+    -- 79321.3, e 2: 7,932,129.5, a tie, to even, which is up
+    ∷ written binary32 10 (2 ∷ 0 ∷ []) (0x479AECA6 ∷ []) (front 1 ++ hex 4 0x02_00_00_00 ++ hex 5 0xE2_08_79_00_00)
+    -- -8359.9, e 3: the same below zero
+    ∷ written binary32 10 (3 ∷ 0 ∷ []) (0xC6029F9A ∷ []) (front 1 ++ hex 4 0x03_00_00_00 ++ hex 5 0x24_70_80_FF_00)
+    -- 71874.41, e 2: 7,187,440.5, to even 7,187,440, which does not come back; 7,187,441 would
+    ∷ written binary32 10 (2 ∷ 0 ∷ []) (0x478C6134 ∷ [])
+    (front 1 ++ hex 4 0x02_00_01_00 ++ hex 5 0x00_00_00_00_00 ++ hex 2 0x00_00 ++ hex 4 0x34_61_8C_47)
+    -- 64-bit 39400880.402, e 8: 3,940,088,040,200,000.5, a tie, down
+    ∷ written binary64 10 (8 ∷ 0 ∷ []) (0x4182C9AD83374BC7 ∷ []) (front 1 ++ hex 4 0x08_00_00_00 ++ hex 9 0x40_17_05_3C_7D_FF_0D_00_00)
+    -- 64-bit 346274320.55028, e 7: 3,462,743,205,502,799.5, a tie, up
+    ∷ written binary64 10 (7 ∷ 0 ∷ []) (0x41B4A3BA108CDF26 ∷ []) (front 1 ++ hex 4 0x07_00_00_00 ++ hex 9 0x50_5F_B6_BA_58_4D_0C_00_00)
+    -- 1e-10, e 10, the largest exponent: 1
+    ∷ written binary32 10 (10 ∷ 0 ∷ []) (0x2EDBE6FF ∷ []) (front 1 ++ hex 4 0x0A_00_00_00 ++ hex 5 0x01_00_00_00_00)
+    -- 3.0, e 10, f 10: 3.0000002 after two multiplications, whose 3 comes back as another value
+    ∷ written binary32 10 (10 ∷ 10 ∷ []) (0x40400000 ∷ [])
+    (front 1 ++ hex 4 0x0A_0A_01_00 ++ hex 5 0x00_00_00_00_00 ++ hex 2 0x00_00 ++ hex 4 0x00_00_40_40)
+    -- 64-bit 1.23e-16, e 18, the largest exponent: 123
+    ∷ written binary64 10 (18 ∷ 0 ∷ []) (0x3CA1B9E627A00D07 ∷ []) (front 1 ++ hex 4 0x12_00_00_00 ++ hex 9 0x7B_00_00_00_00_00_00_00_00)
+    -- 64-bit 3.0, e 18, f 18: 3
+    ∷ written binary64 10 (18 ∷ 18 ∷ []) (0x4008000000000000 ∷ []) (front 1 ++ hex 4 0x12_12_00_00 ++ hex 9 0x03_00_00_00_00_00_00_00_00)
+    -- 16777216.0, e 0: 2^24
+    ∷ written binary32 10 (0 ∷ 0 ∷ []) (0x4B800000 ∷ []) (front 1 ++ hex 4 0x00_00_00_00 ++ hex 5 0x00_00_00_01_00)
+    -- -0.3, e 0: its whole number is 0, which comes back as 0.0
+    ∷ written binary32 10 (0 ∷ 0 ∷ []) (0xBE99999A ∷ [])
+    (front 1 ++ hex 4 0x00_00_01_00 ++ hex 5 0x00_00_00_00_00 ++ hex 2 0x00_00 ++ hex 4 0x9A_99_99_BE)
+    -- -0.3, e 1: -3
+    ∷ written binary32 10 (1 ∷ 0 ∷ []) (0xBE99999A ∷ []) (front 1 ++ hex 4 0x01_00_00_00 ++ hex 5 0xFD_FF_FF_FF_00)
+    -- 64-bit -0.3, e 0: the same
+    ∷ written binary64 10 (0 ∷ 0 ∷ []) (0xBFD3333333333333 ∷ [])
+    (front 1 ++ hex 4 0x00_00_01_00 ++ hex 9 0x00_00_00_00_00_00_00_00_00 ++ hex 2 0x00_00 ++ hex 8 0x33_33_33_33_33_33_D3_BF)
+    -- 64-bit -0.3, e 2, f 1: -3
+    ∷ written binary64 10 (2 ∷ 1 ∷ []) (0xBFD3333333333333 ∷ []) (front 1 ++ hex 4 0x02_01_00_00 ++ hex 9 0xFD_FF_FF_FF_FF_FF_FF_FF_00)
+    -- the smallest value, 2^-149, e 10
+    ∷ written binary32 10 (10 ∷ 0 ∷ []) (0x00000001 ∷ [])
+    (front 1 ++ hex 4 0x0A_00_01_00 ++ hex 5 0x00_00_00_00_00 ++ hex 2 0x00_00 ++ hex 4 0x01_00_00_00)
+    -- the largest subnormal, below zero, e 10
+    ∷ written binary32 10 (10 ∷ 0 ∷ []) (0x807FFFFF ∷ [])
+    (front 1 ++ hex 4 0x0A_00_01_00 ++ hex 5 0x00_00_00_00_00 ++ hex 2 0x00_00 ++ hex 4 0xFF_FF_7F_80)
+    -- 64-bit: the smallest value, 2^-1074, e 18
+    ∷ written binary64 10 (18 ∷ 0 ∷ []) (0x0000000000000001 ∷ [])
+    (front 1 ++ hex 4 0x12_00_01_00 ++ hex 9 0x00_00_00_00_00_00_00_00_00 ++ hex 2 0x00_00 ++ hex 8 0x01_00_00_00_00_00_00_00)
+    -- 64-bit: the largest subnormal, e 18
+    ∷ written binary64 10 (18 ∷ 0 ∷ []) (0x000FFFFFFFFFFFFF ∷ [])
+    (front 1 ++ hex 4 0x12_00_01_00 ++ hex 9 0x00_00_00_00_00_00_00_00_00 ++ hex 2 0x00_00 ++ hex 8 0xFF_FF_FF_FF_FF_FF_0F_00)
+    -- the largest value, e 10, f 10: its first product is infinite
+    ∷ written binary32 10 (10 ∷ 10 ∷ []) (0x7F7FFFFF ∷ [])
+    (front 1 ++ hex 4 0x0A_0A_01_00 ++ hex 5 0x00_00_00_00_00 ++ hex 2 0x00_00 ++ hex 4 0xFF_FF_7F_7F)
+    -- 64-bit: the largest value, below zero, e 18, f 18: its first product is infinite
+    ∷ written binary64 10 (18 ∷ 18 ∷ []) (0xFFEFFFFFFFFFFFFF ∷ [])
+    (front 1 ++ hex 4 0x12_12_01_00 ++ hex 9 0x00_00_00_00_00_00_00_00_00 ++ hex 2 0x00_00 ++ hex 8 0xFF_FF_FF_FF_FF_FF_EF_FF)
+    -- 214748352.0, e 1: scaled to L
+    ∷ written binary32 10 (1 ∷ 0 ∷ []) (0x4D4CCCCC ∷ []) (front 1 ++ hex 4 0x01_00_00_00 ++ hex 5 0x80_FF_FF_7F_00)
+    -- 214748368.0, e 1: scaled to the float above L
+    ∷ written binary32 10 (1 ∷ 0 ∷ []) (0x4D4CCCCD ∷ [])
+    (front 1 ++ hex 4 0x01_00_01_00 ++ hex 5 0x00_00_00_00_00 ++ hex 2 0x00_00 ++ hex 4 0xCD_CC_4C_4D)
+    -- 2147483520.0, e 1, f 1: the first product is above L, the scaled value is not
+    ∷ written binary32 10 (1 ∷ 1 ∷ []) (0x4EFFFFFF ∷ []) (front 1 ++ hex 4 0x01_01_00_00 ++ hex 5 0x80_FF_FF_7F_00)
+    -- 64-bit 2^63 - 1024, e 0: L
+    ∷ written binary64 10 (0 ∷ 0 ∷ []) (0x43DFFFFFFFFFFFFF ∷ []) (front 1 ++ hex 4 0x00_00_00_00 ++ hex 9 0x00_FC_FF_FF_FF_FF_FF_7F_00)
+    -- 64-bit 2^63, e 0: the float above L
+    ∷ written binary64 10 (0 ∷ 0 ∷ []) (0x43E0000000000000 ∷ [])
+    (front 1 ++ hex 4 0x00_00_01_00 ++ hex 9 0x00_00_00_00_00_00_00_00_00 ++ hex 2 0x00_00 ++ hex 8 0x00_00_00_00_00_00_E0_43)
+    -- 64-bit -2^63, e 0: its whole number would fit, its magnitude is above L
+    ∷ written binary64 10 (0 ∷ 0 ∷ []) (0xC3E0000000000000 ∷ [])
+    (front 1 ++ hex 4 0x00_00_01_00 ++ hex 9 0x00_00_00_00_00_00_00_00_00 ++ hex 2 0x00_00 ++ hex 8 0x00_00_00_00_00_00_E0_C3)
+    -- 64-bit 922337203685477478.4, e 1: scaled to L
+    ∷ written binary64 10 (1 ∷ 0 ∷ []) (0x43A9999999999999 ∷ []) (front 1 ++ hex 4 0x01_00_00_00 ++ hex 9 0x00_FC_FF_FF_FF_FF_FF_7F_00)
+    -- 64-bit 2^62, e 0
+    ∷ written binary64 10 (0 ∷ 0 ∷ []) (0x43D0000000000000 ∷ []) (front 1 ++ hex 4 0x00_00_00_00 ++ hex 9 0x00_00_00_00_00_00_00_40_00)
+    -- 64-bit -2^62, e 0
+    ∷ written binary64 10 (0 ∷ 0 ∷ []) (0xC3D0000000000000 ∷ []) (front 1 ++ hex 4 0x00_00_00_00 ++ hex 9 0x00_00_00_00_00_00_00_C0_00)
+    -- 64-bit 1.5 x 2^62, e 0
+    ∷ written binary64 10 (0 ∷ 0 ∷ []) (0x43D8000000000000 ∷ []) (front 1 ++ hex 4 0x00_00_00_00 ++ hex 9 0x00_00_00_00_00_00_00_60_00)
+    ∷ []
+
+-- ---- from a whole number to a value: the reader, also on whole numbers that the writer never gives
+
+unfoldable pub returns : List Line
+returns =
+    -- 2^30 and 64, 65, 192 above it: the nearest float, ties to even
+    reads binary32 (front 4 ++ hex 4 0x00_00_00_00 ++ hex 5 0x00_00_00_40_08 ++ hex 4 0x00_40_41_C0)
+    4 (done (0x4E800000 ∷ 0x4E800000 ∷ 0x4E800001 ∷ 0x4E800002 ∷ []))
+    -- -2^30 - 192 and 127, 128, 192 above it: the same below zero
+    ∷ reads binary32 (front 4 ++ hex 4 0x00_00_00_00 ++ hex 5 0x40_FF_FF_BF_08 ++ hex 4 0x00_7F_80_C0)
+    4 (done (0xCE800002 ∷ 0xCE800001 ∷ 0xCE800000 ∷ 0xCE800000 ∷ []))
+    -- 64-bit, 2^62 and 512, 513, 1,536 above it
+    ∷ reads binary64 (front 4 ++ hex 4 0x00_00_00_00 ++ hex 9 0x00_00_00_00_00_00_00_40_0B ++ hex 6 0x00_00_50_80_00_0C)
+    4 (done (0x43D0000000000000 ∷ 0x43D0000000000000 ∷ 0x43D0000000000001 ∷ 0x43D0000000000002 ∷ []))
+    -- -2^31, e 10
+    ∷ reads binary32 (front 1 ++ hex 4 0x0A_00_00_00 ++ hex 5 0x00_00_00_80_00) 1 (done (0xBE5BE6FF ∷ []))
+    -- 64-bit -2^63, e 18
+    ∷ reads binary64 (front 1 ++ hex 4 0x12_00_00_00 ++ hex 9 0x00_00_00_00_00_00_00_80_00) 1 (done (0xC022725DD1D243AC ∷ []))
+    -- frame 2^31 - 1 and field 1: 2^31, read as -2^31
+    ∷ reads binary32 (front 2 ++ hex 4 0x00_00_00_00 ++ hex 5 0xFF_FF_FF_7F_01 ++ hex 1 0x02) 2 (done (0x4F000000 ∷ 0xCF000000 ∷ []))
+    -- frame -1 and field 2^31 + 1: modulo 2^32 that is 2^31, read as -2^31
+    ∷ reads binary32 (front 2 ++ hex 4 0x00_00_00_00 ++ hex 5 0xFF_FF_FF_FF_20 ++ hex 8 0x00_00_00_00_01_00_00_80)
+    2 (done (0xBF800000 ∷ 0xCF000000 ∷ []))
+    -- 64-bit: frame 2^63 - 1 and field 1
+    ∷ reads binary64 (front 2 ++ hex 4 0x00_00_00_00 ++ hex 9 0xFF_FF_FF_FF_FF_FF_FF_7F_01 ++ hex 1 0x02)
+    2 (done (0x43E0000000000000 ∷ 0xC3E0000000000000 ∷ []))
+    -- 64-bit: frame -1 and field 2^63 + 1
+    ∷ reads binary64
+    (front 2 ++ hex 4 0x00_00_00_00 ++ hex 9 0xFF_FF_FF_FF_FF_FF_FF_FF_40 ++ hex 16 0x00_00_00_00_00_00_00_00_01_00_00_00_00_00_00_80)
+    2 (done (0xBFF0000000000000 ∷ 0xC3E0000000000000 ∷ []))
+    ∷ []
+
+-- ---- vectors and pages, both ways
+
+unfoldable pub shapes : List Line
+shapes =
+    -- L, -L, and the floats beyond them, which are exceptions; frame -L, width 32
+    written binary32 10 (0 ∷ 0 ∷ []) (0x4EFFFFFF ∷ 0xCEFFFFFF ∷ 0x4F000000 ∷ 0xCF000000 ∷ [])
+    (front 4 ++ hex 4 0x00_00_02_00 ++ hex 5 0x80_00_00_80_20 ++ hex 16 0x00_FF_FF_FF_00_00_00_00_00_FF_FF_FF_00_FF_FF_FF
+    ++ hex 4 0x02_00_03_00 ++ hex 8 0x00_00_00_4F_00_00_00_CF)
+    -- 64-bit, the same; width 64
+    ∷ written binary64 10 (0 ∷ 0 ∷ []) (0x43DFFFFFFFFFFFFF ∷ 0xC3DFFFFFFFFFFFFF ∷ 0x43E0000000000000 ∷ 0xC3E0000000000000 ∷ [])
+    (front 4 ++ hex 4 0x00_00_02_00 ++ hex 9 0x00_04_00_00_00_00_00_80_40
+    ++ hex 32 0x00_F8_FF_FF_FF_FF_FF_FF_00_00_00_00_00_00_00_00_00_F8_FF_FF_FF_FF_FF_FF_00_F8_FF_FF_FF_FF_FF_FF ++ hex 4 0x02_00_03_00
+    ++ hex 16 0x00_00_00_00_00_00_E0_43_00_00_00_00_00_00_E0_C3)
+    -- 0.0 and -0.0
+    ∷ written binary32 10 (0 ∷ 0 ∷ []) (0x00000000 ∷ 0x80000000 ∷ [])
+    (front 2 ++ hex 4 0x00_00_01_00 ++ hex 5 0x00_00_00_00_00 ++ hex 2 0x01_00 ++ hex 4 0x00_00_00_80)
+    -- 64-bit 0.0 and -0.0
+    ∷ written binary64 10 (0 ∷ 0 ∷ []) (0x0000000000000000 ∷ 0x8000000000000000 ∷ [])
+    (front 2 ++ hex 4 0x00_00_01_00 ++ hex 9 0x00_00_00_00_00_00_00_00_00 ++ hex 2 0x01_00 ++ hex 8 0x00_00_00_00_00_00_00_80)
+    -- all exceptions: infinities, quiet and signalling NaNs with payload and sign, -0.0, a subnormal
+    ∷ written binary32 10 (0 ∷ 0 ∷ [])
+    (0x7F800000 ∷ 0xFF800000 ∷ 0x7FC00001 ∷ 0xFFC00000 ∷ 0x7F800001 ∷ 0xFFBFFFFF ∷ 0x80000000 ∷ 0x00000001 ∷ [])
+    (front 8 ++ hex 4 0x00_00_08_00 ++ hex 5 0x00_00_00_00_00 ++ hex 16 0x00_00_01_00_02_00_03_00_04_00_05_00_06_00_07_00
+    ++ hex 32 0x00_00_80_7F_00_00_80_FF_01_00_C0_7F_00_00_C0_FF_01_00_80_7F_FF_FF_BF_FF_00_00_00_80_01_00_00_00)
+    -- 64-bit, the same
+    ∷ written binary64 10 (0 ∷ 0 ∷ [])
+    (0x7FF0000000000000 ∷ 0xFFF0000000000000 ∷ 0x7FF8000000000001 ∷ 0xFFF8000000000000
+    ∷ 0x7FF0000000000001 ∷ 0xFFF7FFFFFFFFFFFF ∷ 0x8000000000000000 ∷ 0x0000000000000001 ∷ [])
+    (front 8 ++ hex 4 0x00_00_08_00 ++ hex 9 0x00_00_00_00_00_00_00_00_00 ++ hex 16 0x00_00_01_00_02_00_03_00_04_00_05_00_06_00_07_00
+    ++ hex 32 0x00_00_00_00_00_00_F0_7F_00_00_00_00_00_00_F0_FF_01_00_00_00_00_00_F8_7F_00_00_00_00_00_00_F8_FF
+    ++ hex 32 0x01_00_00_00_00_00_F0_7F_FF_FF_FF_FF_FF_FF_F7_FF_00_00_00_00_00_00_00_80_01_00_00_00_00_00_00_00)
+    -- a NaN before -1.5, 2.5, e 1: the stand-in -15 is below zero
+    ∷ written binary32 10 (1 ∷ 0 ∷ []) (0x7FC00000 ∷ 0xBFC00000 ∷ 0x40200000 ∷ [])
+    (front 3 ++ hex 4 0x01_00_01_00 ++ hex 5 0xF1_FF_FF_FF_06 ++ hex 3 0x00_80_02 ++ hex 2 0x00_00 ++ hex 4 0x00_00_C0_7F)
+    -- 64-bit, the same
+    ∷ written binary64 10 (1 ∷ 0 ∷ []) (0x7FF8000000000000 ∷ 0xBFF8000000000000 ∷ 0x4004000000000000 ∷ [])
+    (front 3 ++ hex 4 0x01_00_01_00 ++ hex 9 0xF1_FF_FF_FF_FF_FF_FF_FF_06 ++ hex 3 0x00_80_02 ++ hex 2 0x00_00
+    ++ hex 8 0x00_00_00_00_00_00_F8_7F)
+    -- a NaN before 8.0, 7.0, 9.0: the stand-in is the first, not the smallest
+    ∷ written binary32 10 (0 ∷ 0 ∷ []) (0x7FC00000 ∷ 0x41000000 ∷ 0x40E00000 ∷ 0x41100000 ∷ [])
+    (front 4 ++ hex 4 0x00_00_01_00 ++ hex 5 0x07_00_00_00_02 ++ hex 1 0x85 ++ hex 2 0x00_00 ++ hex 4 0x00_00_C0_7F)
+    -- 8.0, 7.0, a NaN: a stand-in for a later place is the first all the same
+    ∷ written binary32 10 (0 ∷ 0 ∷ []) (0x41000000 ∷ 0x40E00000 ∷ 0x7FC00000 ∷ [])
+    (front 3 ++ hex 4 0x00_00_01_00 ++ hex 5 0x07_00_00_00_01 ++ hex 1 0x05 ++ hex 2 0x02_00 ++ hex 4 0x00_00_C0_7F)
+    -- 0.0 to 7.0 and 2.0, width 3: 27 bits in four bytes
+    ∷ written binary32 10 (0 ∷ 0 ∷ [])
+    (0x00000000 ∷ 0x3F800000 ∷ 0x40000000 ∷ 0x40400000 ∷ 0x40800000 ∷ 0x40A00000 ∷ 0x40C00000 ∷ 0x40E00000 ∷ 0x40000000 ∷ [])
+    (front 9 ++ hex 4 0x00_00_00_00 ++ hex 5 0x00_00_00_00_03 ++ hex 4 0x88_C6_FA_02)
+    -- 256 times 0.0, then a NaN: 257 values, position 256
+    ∷ written binary32 10 (0 ∷ 0 ∷ []) (replicate 256 0x00000000 ++ 0x7FC00000 ∷ []) (hex 8 0x01_00_00_0A_01_01_00_00 ++ hex 4 0x04_00_00_00
+    ++ hex 4 0x00_00_01_00 ++ hex 5 0x00_00_00_00_00 ++ hex 2 0x00_01 ++ hex 4 0x00_00_C0_7F)
+    -- s 8, 256 NaNs: the count of exceptions needs its second byte
+    ∷ writes binary32 8 (0 ∷ 0 ∷ []) (replicate 256 0xFFFFFFFF) 2581
+    (done (hex 8 0x01_00_00_08_00_01_00_00 ++ hex 4 0x04_00_00_00 ++ hex 4 0x00_00_00_01 ++ hex 5 0x00_00_00_00_00 ++ rising 0 256
+    ++ replicate 1024 0xFF))
+    -- no values at s 3
+    ∷ written binary32 3 [] [] (hex 8 0x01_00_00_03_00_00_00_00)
+    -- 64-bit, no values
+    ∷ written binary64 3 [] [] (hex 8 0x01_00_00_03_00_00_00_00)
+    -- s 3, eight values: one full vector
+    ∷ written binary32 3 (1 ∷ 0 ∷ [])
+    (0x3F000000 ∷ 0x3FC00000 ∷ 0x40200000 ∷ 0x40600000 ∷ 0x40900000 ∷ 0x40B00000 ∷ 0x40D00000 ∷ 0x40F00000 ∷ [])
+    (hex 8 0x01_00_00_03_08_00_00_00 ++ hex 4 0x04_00_00_00
+    ++ hex 4 0x01_00_00_00 ++ hex 5 0x05_00_00_00_07 ++ hex 7 0x00_05_C5_83_92_F1_8C)
+    -- s 3, nine values: a full vector and one value more
+    ∷ written binary32 3 (0 ∷ 0 ∷ 1 ∷ 0 ∷ []) (replicate 8 0x40E00000 ++ 0x3FC00000 ∷ [])
+    (hex 8 0x01_00_00_03_09_00_00_00 ++ hex 8 0x08_00_00_00_11_00_00_00
+    ++ hex 4 0x00_00_00_00 ++ hex 5 0x07_00_00_00_00
+    ++ hex 4 0x01_00_00_00 ++ hex 5 0x0F_00_00_00_00)
+    -- s 3, 20 values: three vectors, each with a pair of its own, the last with the remainder 0.25, 0.5, -0.75, 1.0
+    ∷ written binary32 3 (1 ∷ 0 ∷ 1 ∷ 1 ∷ 2 ∷ 0 ∷ [])
+    (0x3FC00000 ∷ 0xC0200000 ∷ 0x7FC00000 ∷ 0x40600000 ∷ 0x3F000000 ∷ 0x40800000 ∷ 0x42C90000 ∷ 0x00000000
+    ∷ 0x40E00000 ∷ 0x41000000 ∷ 0x40E00000 ∷ 0x41000000 ∷ 0x41100000 ∷ 0xFF800000 ∷ 0x40E00000 ∷ 0x3EAAAAAB
+    ∷ 0x3E800000 ∷ 0x3F000000 ∷ 0xBF400000 ∷ 0x3F800000 ∷ [])
+    (hex 8 0x01_00_00_03_14_00_00_00 ++ hex 12 0x0C_00_00_00_26_00_00_00_3D_00_00_00
+    ++ hex 4 0x01_00_01_00 ++ hex 5 0xE7_FF_FF_FF_0B ++ hex 11 0x28_00_00_0A_78_E0_81_20_18_30_03 ++ hex 2 0x02_00 ++ hex 4 0x00_00_C0_7F
+    ++ hex 4 0x01_01_02_00 ++ hex 5 0x07_00_00_00_02 ++ hex 2 0x44_02 ++ hex 4 0x05_00_07_00 ++ hex 8 0x00_00_80_FF_AB_AA_AA_3E
+    ++ hex 4 0x02_00_00_00 ++ hex 5 0xB5_FF_FF_FF_08 ++ hex 4 0x64_7D_00_AF)
+    -- s 3, 24 values: the remainder is 0, and all three vectors are full
+    ∷ written binary32 3 (1 ∷ 0 ∷ 1 ∷ 1 ∷ 2 ∷ 0 ∷ [])
+    (0x3FC00000 ∷ 0xC0200000 ∷ 0x7FC00000 ∷ 0x40600000 ∷ 0x3F000000 ∷ 0x40800000 ∷ 0x42C90000 ∷ 0x00000000
+    ∷ 0x40E00000 ∷ 0x41000000 ∷ 0x40E00000 ∷ 0x41000000 ∷ 0x41100000 ∷ 0xFF800000 ∷ 0x40E00000 ∷ 0x3EAAAAAB
+    ∷ 0x3E800000 ∷ 0x3F000000 ∷ 0xBF400000 ∷ 0x3F800000 ∷ 0x40000000 ∷ 0x3F000000 ∷ 0x3FA00000 ∷ 0xBF400000 ∷ [])
+    (hex 8 0x01_00_00_03_18_00_00_00 ++ hex 12 0x0C_00_00_00_26_00_00_00_3D_00_00_00
+    ++ hex 4 0x01_00_01_00 ++ hex 5 0xE7_FF_FF_FF_0B ++ hex 11 0x28_00_00_0A_78_E0_81_20_18_30_03 ++ hex 2 0x02_00 ++ hex 4 0x00_00_C0_7F
+    ++ hex 4 0x01_01_02_00 ++ hex 5 0x07_00_00_00_02 ++ hex 2 0x44_02 ++ hex 4 0x05_00_07_00 ++ hex 8 0x00_00_80_FF_AB_AA_AA_3E
+    ++ hex 4 0x02_00_00_00 ++ hex 5 0xB5_FF_FF_FF_09 ++ hex 9 0x64_FA_00_78_35_B1_0F_32_00)
+    -- 64-bit, s 3, the same 20 values
+    ∷ written binary64 3 (1 ∷ 0 ∷ 1 ∷ 1 ∷ 2 ∷ 0 ∷ [])
+    (0x3FF8000000000000 ∷ 0xC004000000000000 ∷ 0x7FF8000000000000 ∷ 0x400C000000000000
+    ∷ 0x3FE0000000000000 ∷ 0x4010000000000000 ∷ 0x4059200000000000 ∷ 0x0000000000000000
+    ∷ 0x401C000000000000 ∷ 0x4020000000000000 ∷ 0x401C000000000000 ∷ 0x4020000000000000
+    ∷ 0x4022000000000000 ∷ 0xFFF0000000000000 ∷ 0x401C000000000000 ∷ 0x3FD5555555555555
+    ∷ 0x3FD0000000000000 ∷ 0x3FE0000000000000 ∷ 0xBFE8000000000000 ∷ 0x3FF0000000000000 ∷ [])
+    (hex 8 0x01_00_00_03_14_00_00_00 ++ hex 12 0x0C_00_00_00_2E_00_00_00_51_00_00_00
+    ++ hex 4 0x01_00_01_00 ++ hex 9 0xE7_FF_FF_FF_FF_FF_FF_FF_0B ++ hex 11 0x28_00_00_0A_78_E0_81_20_18_30_03 ++ hex 2 0x02_00
+    ++ hex 8 0x00_00_00_00_00_00_F8_7F
+    ++ hex 4 0x01_01_02_00 ++ hex 9 0x07_00_00_00_00_00_00_00_02 ++ hex 2 0x44_02 ++ hex 4 0x05_00_07_00
+    ++ hex 16 0x00_00_00_00_00_00_F0_FF_55_55_55_55_55_55_D5_3F
+    ++ hex 4 0x02_00_00_00 ++ hex 9 0xB5_FF_FF_FF_FF_FF_FF_FF_08 ++ hex 4 0x64_7D_00_AF)
+    -- 64-bit, s 3, the same 24 values
+    ∷ written binary64 3 (1 ∷ 0 ∷ 1 ∷ 1 ∷ 2 ∷ 0 ∷ [])
+    (0x3FF8000000000000 ∷ 0xC004000000000000 ∷ 0x7FF8000000000000 ∷ 0x400C000000000000
+    ∷ 0x3FE0000000000000 ∷ 0x4010000000000000 ∷ 0x4059200000000000 ∷ 0x0000000000000000
+    ∷ 0x401C000000000000 ∷ 0x4020000000000000 ∷ 0x401C000000000000 ∷ 0x4020000000000000
+    ∷ 0x4022000000000000 ∷ 0xFFF0000000000000 ∷ 0x401C000000000000 ∷ 0x3FD5555555555555
+    ∷ 0x3FD0000000000000 ∷ 0x3FE0000000000000 ∷ 0xBFE8000000000000 ∷ 0x3FF0000000000000
+    ∷ 0x4000000000000000 ∷ 0x3FE0000000000000 ∷ 0x3FF4000000000000 ∷ 0xBFE8000000000000 ∷ [])
+    (hex 8 0x01_00_00_03_18_00_00_00 ++ hex 12 0x0C_00_00_00_2E_00_00_00_51_00_00_00
+    ++ hex 4 0x01_00_01_00 ++ hex 9 0xE7_FF_FF_FF_FF_FF_FF_FF_0B ++ hex 11 0x28_00_00_0A_78_E0_81_20_18_30_03 ++ hex 2 0x02_00
+    ++ hex 8 0x00_00_00_00_00_00_F8_7F
+    ++ hex 4 0x01_01_02_00 ++ hex 9 0x07_00_00_00_00_00_00_00_02 ++ hex 2 0x44_02 ++ hex 4 0x05_00_07_00
+    ++ hex 16 0x00_00_00_00_00_00_F0_FF_55_55_55_55_55_55_D5_3F
+    ++ hex 4 0x02_00_00_00 ++ hex 9 0xB5_FF_FF_FF_FF_FF_FF_FF_09 ++ hex 9 0x64_FA_00_78_35_B1_0F_32_00)
+    ∷ []
+
+-- ---- rows 1 to 15, from the reader and (but for 15) from the examiner
+
+unfoldable pub refusals : List Line
+refusals =
+    -- 1: no bytes
+    faulty binary32 [] 1 the-page
+    -- 1: seven bytes (R14)
+    ∷ faulty binary32 (hex 7 0x01_00_00_0A_00_00_00) 1 the-page
+    -- 1: seven bytes, and version 2
+    ∷ faulty binary32 (hex 7 0x02_00_00_0A_00_00_00) 1 the-page
+    -- 2: version 2, and mode 1
+    ∷ faulty binary32 (hex 8 0x02_01_00_0A_00_00_00_00) 2 the-page
+    -- 2: version 0
+    ∷ faulty binary32 (hex 8 0x00_00_00_0A_00_00_00_00) 2 the-page
+    -- 3: mode 1, and integer encoding 1
+    ∷ faulty binary32 (hex 8 0x01_01_01_0A_00_00_00_00) 3 the-page
+    -- 4: integer encoding 1, and s 2
+    ∷ faulty binary32 (hex 8 0x01_00_01_02_00_00_00_00) 4 the-page
+    -- 5: s 2 (R15; s 3 and 10 pass, above and in R3)
+    ∷ faulty binary32 (hex 8 0x01_00_00_02_00_00_00_00) 5 the-page
+    -- 5: s 11 (R15)
+    ∷ faulty binary32 (hex 8 0x01_00_00_0B_00_00_00_00) 5 the-page
+    -- 5: s 2, and 16,385 values
+    ∷ faulty binary32 (hex 8 0x01_00_00_02_01_40_00_00) 5 the-page
+    -- 6: 16,385 values (R16), and no offsets
+    ∷ faulty binary32 (hex 8 0x01_00_00_0A_01_40_00_00) 6 the-page
+    -- 6: 2^24 values
+    ∷ faulty binary32 (hex 8 0x01_00_00_0A_00_00_00_01) 6 the-page
+    -- 7 for the offsets: 16,384 values pass row 6 (R16)
+    ∷ faulty binary32 (hex 8 0x01_00_00_0A_00_40_00_00) 7 the-page
+    -- 7 for the offsets: three bytes of four
+    ∷ faulty binary32 (hex 8 0x01_00_00_0A_01_00_00_00 ++ hex 3 0x04_00_00) 7 the-page
+    -- 7 for the offsets: three bytes of the second, and the first is wrong
+    ∷ faulty binary32 (hex 8 0x01_00_00_03_09_00_00_00 ++ hex 7 0x09_00_00_00_11_00_00) 7 the-page
+    -- 8: R5 with offset 5
+    ∷ faulty binary32 (hex 8 0x01_00_00_0A_02_00_00_00 ++ hex 4 0x05_00_00_00 ++ hex 4 0x00_00_00_00 ++ hex 5 0x07_00_00_00_00)
+    8 (in-vector 0)
+    -- 8: R5 with an offset wrong in its last byte
+    ∷ faulty binary32 (hex 8 0x01_00_00_0A_02_00_00_00 ++ hex 4 0x04_00_00_01 ++ hex 4 0x00_00_00_00 ++ hex 5 0x07_00_00_00_00)
+    8 (in-vector 0)
+    -- 8 in vector 2: its offset is 31 in place of 30
+    ∷ faulty binary32
+    (hex 8 0x01_00_00_03_11_00_00_00 ++ hex 12 0x0C_00_00_00_15_00_00_00_1F_00_00_00 ++ hex 4 0x00_00_00_00 ++ hex 5 0x07_00_00_00_00
+    ++ hex 4 0x00_00_00_00 ++ hex 5 0x07_00_00_00_00 ++ hex 4 0x00_00_00_00 ++ hex 5 0x07_00_00_00_00) 8 (in-vector 2)
+    -- 8 in vector 1, and its metadata is missing
+    ∷ faulty binary32 (hex 8 0x01_00_00_03_09_00_00_00 ++ hex 8 0x08_00_00_00_12_00_00_00 ++ hex 4 0x00_00_00_00 ++ hex 5 0x07_00_00_00_00)
+    8 (in-vector 1)
+    -- 7 for metadata in vector 0: none
+    ∷ faulty binary32 (front 1) 7 (in-vector 0)
+    -- 7 for metadata in vector 1: eight bytes of nine, and an exponent above E
+    ∷ faulty binary32 (behind 2 ++ hex 4 0x0B_00_00_00 ++ hex 4 0x07_00_00_00) 7 (in-vector 1)
+    -- 7 for metadata, 64-bit: twelve bytes of thirteen
+    ∷ faulty binary64 (front 1 ++ hex 4 0x00_00_00_00 ++ hex 8 0x07_00_00_00_00_00_00_00) 7 (in-vector 0)
+    -- 9 in vector 1: exponent 11, and a factor above it
+    ∷ faulty binary32 (behind 2 ++ hex 4 0x0B_0C_00_00 ++ hex 5 0x07_00_00_00_00) 9 (in-vector 1)
+    -- 9, 64-bit: exponent 19
+    ∷ faulty binary64 (front 1 ++ hex 4 0x13_00_00_00 ++ hex 9 0x07_00_00_00_00_00_00_00_00) 9 (in-vector 0)
+    -- 9: R6 with e 11 (R17)
+    ∷ faulty binary32 (front 2 ++ hex 4 0x0B_00_00_00 ++ hex 5 0xFF_FF_FF_FF_02 ++ hex 1 0x08) 9 (in-vector 0)
+    -- 10: R6 with e 1, f 2 (R17)
+    ∷ faulty binary32 (front 2 ++ hex 4 0x01_02_00_00 ++ hex 5 0xFF_FF_FF_FF_02 ++ hex 1 0x08) 10 (in-vector 0)
+    -- 10 in vector 1: e 1, f 2, and three exceptions of two values
+    ∷ faulty binary32 (behind 2 ++ hex 4 0x01_02_03_00 ++ hex 5 0x07_00_00_00_00) 10 (in-vector 1)
+    -- 11 in vector 1: three exceptions of two values, and width 33
+    ∷ faulty binary32 (behind 2 ++ hex 4 0x00_00_03_00 ++ hex 5 0x07_00_00_00_21) 11 (in-vector 1)
+    -- 11 in vector 1: 256 exceptions
+    ∷ faulty binary32 (behind 2 ++ hex 4 0x00_00_00_01 ++ hex 5 0x07_00_00_00_00) 11 (in-vector 1)
+    -- 12 in vector 1: width 33, and no data
+    ∷ faulty binary32 (behind 2 ++ hex 4 0x00_00_00_00 ++ hex 5 0x07_00_00_00_21) 12 (in-vector 1)
+    -- 12, 64-bit: width 65
+    ∷ faulty binary64 (front 1 ++ hex 4 0x00_00_00_00 ++ hex 9 0x07_00_00_00_00_00_00_00_41 ++ hex 9 0x00_00_00_00_00_00_00_00_00)
+    12 (in-vector 0)
+    -- 7 for data in vector 1: width 1, and no packed byte
+    ∷ faulty binary32 (behind 2 ++ hex 4 0x00_00_00_00 ++ hex 5 0x07_00_00_00_01) 7 (in-vector 1)
+    -- 7 for data in vector 1: its last byte is missing, and its position is wrong
+    ∷ faulty binary32 (behind 2 ++ hex 4 0x00_00_01_00 ++ hex 5 0x07_00_00_00_00 ++ hex 2 0x02_00 ++ hex 3 0x00_00_C0) 7 (in-vector 1)
+    -- 13, place 1: R2 with positions 3, 1 (R12)
+    ∷ faulty binary32
+    (front 4 ++ hex 4 0x01_00_02_00 ++ hex 5 0x0F_00_00_00_04 ++ hex 2 0x00_0A ++ hex 4 0x03_00_01_00 ++ hex 8 0x00_00_C0_7F_AB_AA_AA_3E)
+    13 (in-vector-at 0 1)
+    -- 13 in vector 1, place 0: position 2 is below the vector size, not below its count
+    ∷ faulty binary32 (behind 2 ++ hex 4 0x00_00_01_00 ++ hex 5 0x07_00_00_00_00 ++ hex 2 0x02_00 ++ hex 4 0x00_00_C0_7F)
+    13 (in-vector-at 1 0)
+    -- 13 in vector 1, place 0: position 256
+    ∷ faulty binary32 (behind 2 ++ hex 4 0x00_00_01_00 ++ hex 5 0x07_00_00_00_00 ++ hex 2 0x00_01 ++ hex 4 0x00_00_C0_7F)
+    13 (in-vector-at 1 0)
+    -- 13 in vector 1, place 1: position 4 of four values, and a byte after the last vector
+    ∷ faulty binary32
+    (behind 4 ++ hex 4 0x00_00_02_00 ++ hex 5 0x07_00_00_00_00 ++ hex 4 0x00_00_04_00 ++ hex 8 0x00_00_C0_7F_00_00_C0_7F ++ hex 1 0x00)
+    13 (in-vector-at 1 1)
+    -- 13 in vector 1, place 2: position 1 equals the one before
+    ∷ faulty binary32 (behind 4 ++ hex 4 0x00_00_03_00 ++ hex 5 0x07_00_00_00_00 ++ hex 6 0x00_00_01_00_01_00
+    ++ hex 12 0x00_00_C0_7F_00_00_C0_7F_00_00_C0_7F) 13 (in-vector-at 1 2)
+    -- 13 in vector 0, before vector 1 with its wrong offset
+    ∷ faulty binary32 (hex 8 0x01_00_00_03_09_00_00_00 ++ hex 8 0x08_00_00_00_00_00_00_00 ++ hex 4 0x00_00_01_00 ++ hex 5 0x07_00_00_00_00
+    ++ hex 2 0x08_00 ++ hex 4 0x00_00_C0_7F ++ hex 4 0x00_00_00_00 ++ hex 5 0x07_00_00_00_00) 13 (in-vector-at 0 0)
+    -- 14: a header of no values, and one byte more
+    ∷ faulty binary32 (hex 8 0x01_00_00_0A_00_00_00_00 ++ hex 1 0x00) 14 the-page
+    -- 14: R1 and one byte more (R13)
+    ∷ faulty binary32 (front 4 ++ hex 4 0x02_00_00_00 ++ hex 5 0x0C_00_00_00_0A ++ hex 5 0x6F_F0_96_30_00 ++ hex 1 0x00) 14 the-page
+    -- 14: a byte after vector 1
+    ∷ faulty binary32 (behind 2 ++ hex 4 0x00_00_00_00 ++ hex 5 0x07_00_00_00_00 ++ hex 1 0xFF) 14 the-page
+    -- 14 before 15: room for none
+    ∷ reads binary32 (front 2 ++ hex 4 0x00_00_00_00 ++ hex 5 0x07_00_00_00_00 ++ hex 1 0x00) 0 (refused 14 the-page)
+    -- 15: room for one of two values
+    ∷ reads binary32 (front 2 ++ hex 4 0x00_00_00_00 ++ hex 5 0x07_00_00_00_00) 1 (refused 15 the-page)
+    -- 15: room for nine of ten values in two vectors
+    ∷ reads binary32 (behind 2 ++ hex 4 0x00_00_00_00 ++ hex 5 0x07_00_00_00_00) 9 (refused 15 the-page)
+    -- room for more than the values
+    ∷ reads binary32 (front 2 ++ hex 4 0x00_00_00_00 ++ hex 5 0x07_00_00_00_00) 3 (done (0x40E00000 ∷ 0x40E00000 ∷ []))
+    -- no values, and no room
+    ∷ reads binary32 (hex 8 0x01_00_00_0A_00_00_00_00) 0 (done [])
+    -- the examiner needs no room
+    ∷ examines binary32 (behind 2 ++ hex 4 0x00_00_00_00 ++ hex 5 0x07_00_00_00_00) (done (replicate 10 0x40E00000))
+    ∷ []
+
+-- ---- rows 20 to 24, from the examiner alone; the reader gives the values
+
+unfoldable pub flaws : List Line
+flaws =
+    -- 20 in vector 1: 7.0, 8.0, 7.0 with the lowest unused bit
+    flawed binary32 (behind 3 ++ hex 4 0x00_00_00_00 ++ hex 5 0x07_00_00_00_01 ++ hex 1 0x0A)
+    (sevens ++ 0x40E00000 ∷ 0x41000000 ∷ 0x40E00000 ∷ []) 20 (in-vector 1)
+    -- 20 in vector 1: the highest unused bit of the last of two packed bytes
+    ∷ flawed binary32 (behind 3 ++ hex 4 0x00_00_00_00 ++ hex 5 0x07_00_00_00_03 ++ hex 2 0xC8_81)
+    (sevens ++ 0x40E00000 ∷ 0x41000000 ∷ 0x41600000 ∷ []) 20 (in-vector 1)
+    -- 20 before 21: the vector of the next line, with an unused bit
+    ∷ flawed binary32 (behind 3 ++ hex 4 0x00_00_00_00 ++ hex 5 0x00_00_00_01_01 ++ hex 1 0x84)
+    (sevens ++ 0x4B800000 ∷ 0x4B800000 ∷ 0x4B800000 ∷ []) 20 (in-vector 1)
+    -- 21 in vector 1, place 2: 16,777,217 comes back as 16777216.0, which turns into another whole number
+    ∷ flawed binary32 (behind 3 ++ hex 4 0x00_00_00_00 ++ hex 5 0x00_00_00_01_01 ++ hex 1 0x04)
+    (sevens ++ 0x4B800000 ∷ 0x4B800000 ∷ 0x4B800000 ∷ []) 21 (in-vector-at 1 2)
+    -- 21 in vector 1, place 1: 2,147,483,647 comes back as 2147483648.0, which is an exception
+    ∷ flawed binary32 (behind 2 ++ hex 4 0x00_00_00_00 ++ hex 5 0x80_FF_FF_7F_07 ++ hex 2 0x80_3F) (sevens ++ 0x4EFFFFFF ∷ 0x4F000000 ∷ [])
+    21 (in-vector-at 1 1)
+    -- 21, place 1, 64-bit: 2^53 + 1
+    ∷ flawed binary64 (front 2 ++ hex 4 0x00_00_00_00 ++ hex 9 0x00_00_00_00_00_00_20_00_01 ++ hex 1 0x02)
+    (0x4340000000000000 ∷ 0x4340000000000000 ∷ []) 21 (in-vector-at 0 1)
+    -- 21 at place 1 before 22 at place 0
+    ∷ flawed binary32 (behind 2 ++ hex 4 0x00_00_01_00 ++ hex 5 0x00_00_00_01_01 ++ hex 1 0x02 ++ hex 2 0x00_00 ++ hex 4 0x00_00_E0_40)
+    (sevens ++ 0x40E00000 ∷ 0x4B800000 ∷ []) 21 (in-vector-at 1 1)
+    -- 22 in vector 1, place 1: a listed 7.0 is no exception
+    ∷ flawed binary32 (behind 2 ++ hex 4 0x00_00_01_00 ++ hex 5 0x07_00_00_00_00 ++ hex 2 0x01_00 ++ hex 4 0x00_00_E0_40)
+    (sevens ++ 0x40E00000 ∷ 0x40E00000 ∷ []) 22 (in-vector-at 1 1)
+    -- 22, place 2, 64-bit: a NaN is listed at 0, rightly, and 1.5 at 2
+    ∷ flawed binary64 (front 3 ++ hex 4 0x01_00_02_00 ++ hex 9 0x0F_00_00_00_00_00_00_00_00 ++ hex 4 0x00_00_02_00
+    ++ hex 16 0x00_00_00_00_00_00_F8_7F_00_00_00_00_00_00_F8_3F)
+    (0x7FF8000000000000 ∷ 0x3FF8000000000000 ∷ 0x3FF8000000000000 ∷ []) 22 (in-vector-at 0 2)
+    -- 22 at place 2 before 23 at place 1
+    ∷ flawed binary32
+    (behind 3 ++ hex 4 0x00_00_02_00 ++ hex 5 0x07_00_00_00_01 ++ hex 1 0x02 ++ hex 4 0x01_00_02_00 ++ hex 8 0x00_00_C0_7F_00_00_00_41)
+    (sevens ++ 0x40E00000 ∷ 0x7FC00000 ∷ 0x41000000 ∷ []) 22 (in-vector-at 1 2)
+    -- 23 in vector 1, place 1: 7.0, a NaN, 8.0, where 8 stands in for the NaN in place of 7
+    ∷ flawed binary32 (behind 3 ++ hex 4 0x00_00_01_00 ++ hex 5 0x07_00_00_00_01 ++ hex 1 0x06 ++ hex 2 0x01_00 ++ hex 4 0x00_00_C0_7F)
+    (sevens ++ 0x40E00000 ∷ 0x7FC00000 ∷ 0x41000000 ∷ []) 23 (in-vector-at 1 1)
+    -- 23, place 0: a NaN, 8.0, 7.0, where the smallest stands in
+    ∷ flawed binary32 (front 3 ++ hex 4 0x00_00_01_00 ++ hex 5 0x07_00_00_00_01 ++ hex 1 0x02 ++ hex 2 0x00_00 ++ hex 4 0x00_00_C0_7F)
+    (0x7FC00000 ∷ 0x41000000 ∷ 0x40E00000 ∷ []) 23 (in-vector-at 0 0)
+    -- 23 in vector 1, place 0: all values are listed, and 5 stands in place of 0
+    ∷ flawed binary32 (behind 2 ++ hex 4 0x00_00_02_00 ++ hex 5 0x05_00_00_00_00 ++ hex 4 0x00_00_01_00 ++ hex 8 0x00_00_C0_7F_00_00_80_7F)
+    (sevens ++ 0x7FC00000 ∷ 0x7F800000 ∷ []) 23 (in-vector-at 1 0)
+    -- 23 in vector 1, place 1: a NaN whose place holds 16,777,217; row 21 is for unlisted ones
+    ∷ flawed binary32 (behind 2 ++ hex 4 0x00_00_01_00 ++ hex 5 0x00_00_00_01_01 ++ hex 1 0x02 ++ hex 2 0x01_00 ++ hex 4 0x00_00_C0_7F)
+    (sevens ++ 0x4B800000 ∷ 0x7FC00000 ∷ []) 23 (in-vector-at 1 1)
+    -- 23 before 24: the wrong stand-in, and width 2 where 1 is enough
+    ∷ flawed binary32 (behind 3 ++ hex 4 0x00_00_01_00 ++ hex 5 0x07_00_00_00_02 ++ hex 1 0x14 ++ hex 2 0x01_00 ++ hex 4 0x00_00_C0_7F)
+    (sevens ++ 0x40E00000 ∷ 0x7FC00000 ∷ 0x41000000 ∷ []) 23 (in-vector-at 1 1)
+    -- 24 in vector 1: frame 6 for 7.0, 8.0, whose width 2 is that of their fields
+    ∷ flawed binary32 (behind 2 ++ hex 4 0x00_00_00_00 ++ hex 5 0x06_00_00_00_02 ++ hex 1 0x09) (sevens ++ 0x40E00000 ∷ 0x41000000 ∷ [])
+    24 (in-vector 1)
+    -- 24 in vector 1: width 2 for 7.0, 8.0
+    ∷ flawed binary32 (behind 2 ++ hex 4 0x00_00_00_00 ++ hex 5 0x07_00_00_00_02 ++ hex 1 0x04) (sevens ++ 0x40E00000 ∷ 0x41000000 ∷ [])
+    24 (in-vector 1)
+    -- 24 in vector 1: width 1 for 7.0, 7.0
+    ∷ flawed binary32 (behind 2 ++ hex 4 0x00_00_00_00 ++ hex 5 0x07_00_00_00_01 ++ hex 1 0x00) (sevens ++ 0x40E00000 ∷ 0x40E00000 ∷ [])
+    24 (in-vector 1)
+    -- 24: fields 0, 640, 896 on frame L - 640 make L - 640, L and, modulo 2^32, -L, which is smaller than the frame
+    ∷ flawed binary32 (front 3 ++ hex 4 0x00_00_00_00 ++ hex 5 0x00_FD_FF_7F_0A ++ hex 4 0x00_00_0A_38)
+    (0x4EFFFFFA ∷ 0x4EFFFFFF ∷ 0xCEFFFFFF ∷ []) 24 (in-vector 0)
+    -- 24, 64-bit: width 64 for 7.0
+    ∷ flawed binary64 (front 1 ++ hex 4 0x00_00_00_00 ++ hex 9 0x07_00_00_00_00_00_00_00_40 ++ hex 8 0x00_00_00_00_00_00_00_00)
+    (0x401C000000000000 ∷ []) 24 (in-vector 0)
+    -- 24 in vector 0 before 20 in vector 1
+    ∷ flawed binary32
+    (hex 8 0x01_00_00_03_09_00_00_00 ++ hex 8 0x08_00_00_00_12_00_00_00 ++ hex 4 0x00_00_00_00 ++ hex 5 0x07_00_00_00_01 ++ hex 1 0x00
+    ++ hex 4 0x00_00_00_00 ++ hex 5 0x07_00_00_00_01 ++ hex 1 0x02) (sevens ++ 0x40E00000 ∷ []) 24 (in-vector 0)
+    -- 13 in vector 1 before 24 in vector 0
+    ∷ faulty binary32
+    (hex 8 0x01_00_00_03_09_00_00_00 ++ hex 8 0x08_00_00_00_12_00_00_00 ++ hex 4 0x00_00_00_00 ++ hex 5 0x07_00_00_00_01 ++ hex 1 0x00
+    ++ hex 4 0x00_00_01_00 ++ hex 5 0x07_00_00_00_00 ++ hex 2 0x01_00 ++ hex 4 0x00_00_C0_7F) 13 (in-vector-at 1 0)
+    ∷ []
+
+-- ---- rows 5, 6, 16, 9, 10 and 15 from the writer and (but for 15) from measuring
+
+unfoldable pub settings : List Line
+settings =
+    -- 5: s 2, though all else is right
+    writes binary32 2 (0 ∷ 0 ∷ []) (0x40E00000 ∷ []) 100 (refused 5 the-page)
+    -- 5: s 11
+    ∷ writes binary32 11 (0 ∷ 0 ∷ []) (0x40E00000 ∷ []) 100 (refused 5 the-page)
+    -- 5: s 2
+    ∷ measures binary32 2 (0 ∷ 0 ∷ []) (0x40E00000 ∷ []) (refusal 5 the-page)
+    -- 5: s 11
+    ∷ measures binary32 11 (0 ∷ 0 ∷ []) (0x40E00000 ∷ []) (refusal 5 the-page)
+    -- 5 before 6: s 11, and 16,385 values
+    ∷ writes binary32 11 [] (replicate 16385 0x00000000) 0 (refused 5 the-page)
+    -- 6: 16,385 values, and no pairs
+    ∷ writes binary32 10 [] (replicate 16385 0x00000000) 0 (refused 6 the-page)
+    -- 6, 64-bit
+    ∷ measures binary64 10 [] (replicate 16385 0x0000000000000000) (refusal 6 the-page)
+    -- 16: 16,384 values pass row 6
+    ∷ measures binary32 10 [] (replicate 16384 0x00000000) (refusal 16 the-page)
+    -- 16,384 values: 8 + 16 x 13 + 16,384 x 10
+    ∷ measures binary32 10 (replicate 32 0) (replicate 16384 0x00000000) (done-with 164056)
+    -- 16: an odd count of bytes
+    ∷ writes binary32 10 (0 ∷ 0 ∷ 0 ∷ []) (0x40E00000 ∷ []) 100 (refused 16 the-page)
+    -- 16: one pair too few, its exponent above E
+    ∷ writes binary32 3 (11 ∷ 0 ∷ []) (replicate 9 0x40E00000) 200 (refused 16 the-page)
+    -- 16: one pair too many
+    ∷ writes binary32 3 (0 ∷ 0 ∷ 0 ∷ 0 ∷ []) (replicate 8 0x40E00000) 200 (refused 16 the-page)
+    -- 16: a pair for no values
+    ∷ measures binary64 3 (0 ∷ 0 ∷ []) [] (refusal 16 the-page)
+    -- 9 in vector 1: exponent 11, and a factor above it
+    ∷ writes binary32 3 (10 ∷ 10 ∷ 11 ∷ 12 ∷ []) (replicate 9 0x40E00000) 200 (refused 9 (in-vector 1))
+    -- 9, 64-bit: exponent 19
+    ∷ writes binary64 3 (19 ∷ 0 ∷ []) (0x401C000000000000 ∷ []) 200 (refused 9 (in-vector 0))
+    -- 10 in vector 2
+    ∷ writes binary32 3 (0 ∷ 0 ∷ 1 ∷ 1 ∷ 1 ∷ 2 ∷ []) (replicate 17 0x40E00000) 300 (refused 10 (in-vector 2))
+    -- 9 in vector 1
+    ∷ measures binary32 3 (10 ∷ 10 ∷ 11 ∷ 0 ∷ []) (replicate 9 0x40E00000) (refusal 9 (in-vector 1))
+    -- 10 in vector 0 before 9 in vector 1
+    ∷ measures binary32 3 (1 ∷ 2 ∷ 11 ∷ 0 ∷ []) (replicate 9 0x40E00000) (refusal 10 (in-vector 0))
+    -- 10 before 15: no room
+    ∷ writes binary32 3 (1 ∷ 2 ∷ []) (0x40E00000 ∷ []) 0 (refused 10 (in-vector 0))
+    -- 15: one byte below the bound, though the page would fit
+    ∷ writes binary32 10 (0 ∷ 0 ∷ []) (0x40E00000 ∷ 0x40E00000 ∷ []) 40 (refused 15 the-page)
+    -- the bound itself is enough
+    ∷ writes binary32 10 (0 ∷ 0 ∷ []) (0x40E00000 ∷ 0x40E00000 ∷ []) 41
+    (done (hex 8 0x01_00_00_0A_02_00_00_00 ++ hex 4 0x04_00_00_00 ++ hex 4 0x00_00_00_00 ++ hex 5 0x07_00_00_00_00))
+    -- and so is more
+    ∷ writes binary32 10 (0 ∷ 0 ∷ []) (0x40E00000 ∷ 0x40E00000 ∷ []) 50
+    (done (hex 8 0x01_00_00_0A_02_00_00_00 ++ hex 4 0x04_00_00_00 ++ hex 4 0x00_00_00_00 ++ hex 5 0x07_00_00_00_00))
+    -- 15, 64-bit
+    ∷ writes binary64 10 (0 ∷ 0 ∷ []) (0x401C000000000000 ∷ []) 42 (refused 15 the-page)
+    -- 15: no values need eight bytes
+    ∷ writes binary32 3 [] [] 7 (refused 15 the-page)
+    -- 8 bytes for no values
+    ∷ measures binary32 3 [] [] (done-with 8)
+    -- 8 + 1 x 13 + 2 x 10
+    ∷ measures binary32 10 (0 ∷ 0 ∷ []) (0x40E00000 ∷ 0x40E00000 ∷ []) (done-with 41)
+    -- 8 + 3 x 13 + 20 x 10
+    ∷ measures binary32 3 (1 ∷ 0 ∷ 0 ∷ 0 ∷ 10 ∷ 10 ∷ []) (replicate 20 0x40E00000) (done-with 247)
+    -- 64-bit, 8 + 3 x 17 + 24 x 18
+    ∷ measures binary64 3 (18 ∷ 0 ∷ 0 ∷ 0 ∷ 18 ∷ 18 ∷ []) (replicate 24 0x401C000000000000) (done-with 491)
+    ∷ []
+
+-- ---- the table
+
+unfoldable pub edges : List Line
+edges = arithmetic ++ returns ++ shapes ++ refusals ++ flaws ++ settings
+
+pub edges-hold : allHold edges ≡ true
+unfolding allRules rising edges arithmetic returns shapes refusals flaws settings
+edges-hold = refl
