@@ -80,7 +80,7 @@ pub record FirstTrue (rows : List Row) (a : ℕ) (p : Point) : Type 0 where
   pub rows-are : rows ≡ before ++ (record { number = a; point = p; condition = true } ∷ behind)
   pub none-before : Each Passes before
 
--- ---- what a call gives: the bytes or values that it writes, or a refusal
+-- ---- what a call gives: the bytes or values that it writes (the examiner: the values that it is done with), or a refusal
 
 pub data Result : Type 0 where
   done : List ℕ → Result
