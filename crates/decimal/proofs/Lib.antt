@@ -1,0 +1,9 @@
+pub mod Entries
+pub mod Products
+pub mod Powers
+pub mod Halves
+pub mod Closest
+pub mod Rounding
+pub mod Exceptions
+pub mod Words
+pub mod Turns

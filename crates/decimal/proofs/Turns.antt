@@ -1,0 +1,19 @@
+-- One turn of a loop that maps a list in place, and its end. Assumes nothing.
+use mathlib.Core.Path.{_≡_, sym}
+use mathlib.Core.List.{List, [], _∷_, _++_, map, append-assoc, append-nil}
+use Prim.Native.Nat.{ℕ, suc, _+_, _≤_, _<_}
+use native.Mathlib.Numerals.{add-one}
+use native.Mathlib.Nat.{le-refl}
+use lib.ListN.{length, take, drop, getD, set, drop-of-length-le}
+use lib.Seq.{take-suc-set, drop-set-lt, drop-cons, take-all}
+
+-- the elements before i are mapped, those from i on are yet to be
+abbrev pub halfway : (ℕ → ℕ) → ℕ → List ℕ → List ℕ
+halfway g i out = take i out ++ map g (drop i out)
+
+pub map-next : (g : ℕ → ℕ) (out : List ℕ) (i v : ℕ) → i < length out → v ≡ g (getD out i 0) → halfway g i out ≡ halfway g (i + 1) (set out i v)
+map-next g out i v h e =
+    sym (rw (add-one, take-suc-set out i v h, drop-set-lt (suc i) out i v (le-refl (suc i)), drop-cons out i 0 h, e) (append-assoc (take i out) (g (getD out i 0) ∷ []) (map g (drop (suc i) out))))
+
+pub map-end : (g : ℕ → ℕ) (out : List ℕ) (i : ℕ) → length out ≤ i → halfway g i out ≡ out
+map-end g out i h = rw (drop-of-length-le out {i = i} h, take-all i out h) (append-nil out)

@@ -1,0 +1,58 @@
+use mir.Val.{toZ, ofZ}
+use mathlib.Core.Path.{_≡_, refl, ap, _∙_}
+use Prim.Native.Nat.{_%_, _^_}
+use lib.IntN.{ℤ, pos}
+use lib.Ieee.{Float, fin, binary32, ofInt, ofBits, mul, add}
+use mir.Syntax.{w16}
+use mir.Facts.{toZ-ofZ}
+use Rattle.decimal.proofs.Halves.{unit, halves-nearest}
+use borrow.Author.Needs.{needs}
+use Rattle.decimal.proofs.back.nearest_float32.Statement.{statement}
+use Rattle.decimal.proofs.back.nearest_float32.Tie as tie
+use Rattle.decimal.proofs.back.nearest_float32.Reads as reads
+use Rattle.decimal.proofs.back.nearest_float32.Lts as lts
+use Rattle.decimal.proofs.signed.of_word16.Reads as of-word16-reads
+
+-- the code's literal, by its bits
+literal : ofBits binary32 1199570944 ≡ unit binary32
+unfolding ofBits
+literal = refl
+
+-- src/back.rt:28:26
+cast-of-word16 : tie.Need-cast-of-word16
+cast-of-word16 c = search needs
+
+-- src/back.rt:28:9
+of-word16-requires : tie.Need-of-word16-requires
+of-word16-requires c κs = search needs
+
+-- src/back.rt:29:15
+cast-low : tie.Need-cast-low
+cast-low c = search needs
+
+-- src/back.rt:30:6
+int-to-float-result : tie.Need-int-to-float-result
+int-to-float-result c = search needs
+
+-- src/back.rt:30:32
+int-to-float-result-2 : tie.Need-int-to-float-result-2
+int-to-float-result-2 c = search needs
+
+-- src/back.rt:25:1
+returns : tie.Need-returns
+returns c =
+    let s = c .before .before .before .args .word in
+    let h = toZ w16 (ofZ w16 (c .before .before .of-word16 .result)) in
+    ap (λ (x : Float). add binary32 (mul binary32 (ofInt binary32 h) x) (ofInt binary32 (pos (s % 2 ^ 16)))) literal
+    ∙ halves-nearest binary32 s h (c .before .before .before .fits .word .fits) (toZ-ofZ {w = w16} (record { sfits = c .before .before .of-word16 .ok }) ∙ c .before .before .of-word16 .ensures)
+
+pub nearest-float32-spec : {M : Type 1} → statement M
+nearest-float32-spec =
+    tie.close
+    (tie.spec
+    cast-of-word16
+    of-word16-requires
+    cast-low
+    int-to-float-result
+    int-to-float-result-2
+    returns)

@@ -1,0 +1,58 @@
+use mir.Val.{toZ, ofZ}
+use mathlib.Core.Path.{_≡_, refl, ap, _∙_}
+use Prim.Native.Nat.{_%_, _^_}
+use lib.IntN.{ℤ, pos}
+use lib.Ieee.{Float, fin, binary64, ofInt, ofBits, mul, add}
+use mir.Syntax.{w32}
+use mir.Facts.{toZ-ofZ}
+use Rattle.decimal.proofs.Halves.{unit, halves-nearest}
+use borrow.Author.Needs.{needs}
+use Rattle.decimal.proofs.back.nearest_float64.Statement.{statement}
+use Rattle.decimal.proofs.back.nearest_float64.Tie as tie
+use Rattle.decimal.proofs.back.nearest_float64.Reads as reads
+use Rattle.decimal.proofs.back.nearest_float64.Lts as lts
+use Rattle.decimal.proofs.signed.of_word32.Reads as of-word32-reads
+
+-- the code's literal, by its bits
+literal : ofBits binary64 4751297606875873280 ≡ unit binary64
+unfolding ofBits
+literal = refl
+
+-- src/back.rt:20:26
+cast-of-word32 : tie.Need-cast-of-word32
+cast-of-word32 c = search needs
+
+-- src/back.rt:20:9
+of-word32-requires : tie.Need-of-word32-requires
+of-word32-requires c κs = search needs
+
+-- src/back.rt:21:15
+cast-low : tie.Need-cast-low
+cast-low c = search needs
+
+-- src/back.rt:22:6
+int-to-float-result : tie.Need-int-to-float-result
+int-to-float-result c = search needs
+
+-- src/back.rt:22:37
+int-to-float-result-2 : tie.Need-int-to-float-result-2
+int-to-float-result-2 c = search needs
+
+-- src/back.rt:17:1
+returns : tie.Need-returns
+returns c =
+    let s = c .before .before .before .args .word in
+    let h = toZ w32 (ofZ w32 (c .before .before .of-word32 .result)) in
+    ap (λ (x : Float). add binary64 (mul binary64 (ofInt binary64 h) x) (ofInt binary64 (pos (s % 2 ^ 32)))) literal
+    ∙ halves-nearest binary64 s h (c .before .before .before .fits .word .fits) (toZ-ofZ {w = w32} (record { sfits = c .before .before .of-word32 .ok }) ∙ c .before .before .of-word32 .ensures)
+
+pub nearest-float64-spec : {M : Type 1} → statement M
+nearest-float64-spec =
+    tie.close
+    (tie.spec
+    cast-of-word32
+    of-word32-requires
+    cast-low
+    int-to-float-result
+    int-to-float-result-2
+    returns)

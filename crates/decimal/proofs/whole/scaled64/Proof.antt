@@ -1,0 +1,24 @@
+use mathlib.Core.Path.{sym, ap, subst}
+use mathlib.Core.Bool.{Bool, not}
+use lib.Dec.{T}
+use lib.Ieee.{binary64, toBits}
+use Rattle.decimal.proofs.Powers.{scaled-is, scaled-real}
+use Rattle.decimal.proofs.whole.scaled64.Statement.{statement}
+use Rattle.decimal.proofs.whole.scaled64.Tie as tie
+use Rattle.decimal.proofs.whole.scaled64.Reads as reads
+use Rattle.decimal.proofs.whole.scaled64.Lts as lts
+
+-- src/whole.rt:30:18
+float-from-bits-result : tie.Need-float-from-bits-result
+float-from-bits-result c = subst (λ (b : Bool). T (not b)) (sym (c .pre .1)) tt
+
+-- src/whole.rt:30:5
+float-to-bits-result : tie.Need-float-to-bits-result
+float-to-bits-result c = scaled-real (c .before .before .pre .0) _ (c .before .before .pre .1)
+
+-- src/whole.rt:26:1
+returns : tie.Need-returns
+returns c = ap (toBits binary64) (scaled-is (c .before .before .pre .0) _)
+
+pub scaled64-spec : {M : Type 1} → statement M
+scaled64-spec = tie.close (tie.spec float-from-bits-result float-to-bits-result returns)
