@@ -1,7 +1,7 @@
 -- The exception rule by the tests that the code makes on bit patterns. Assumes nothing.
 use mathlib.Core.Path.{_≡_, refl, sym, ap, _∙_, subst}
-use mathlib.Core.Bool.{Bool, true, false, not, _&&_, _||_, cond}
-use mathlib.Core.Option.{Option, none, some}
+use mathlib.Core.Bool.{Bool, true, false, not, _||_, cond}
+use mathlib.Core.Option.{none, some}
 use Prim.Native.Nat.{ℕ, zero, suc, _+_, _-_, _*_, _/_, _%_, _^_, _≤_, _<_}
 use native.Mathlib.Nat.{le-of-lt, zero-mul, zero-div}
 use native.Mathlib.Omega.{arith}
@@ -10,9 +10,15 @@ use lib.IntN.{ℤ, pos}
 use lib.Ieee.{Float, nan, inf, fin, Format, binary32, binary64, top, hid, ones, low, prec, size, up, down, odd, mul, isNan, toBits, ofBits, ofFields, nanBits}
 use lib.Ieee.Bits.{nanBits-above, ofBits-toBits, toBits-ofBits}
 use lib.Ieee.Fits.{mul-fits}
-use borrow.Author.Tests.{le-ltb, eq-eqb, ne-eqb, eqb-true}
+use borrow.Author.Tests.{le-ltb, eq-eqb, ne-eqb}
+use mir.Val.{SFits, toZ, ofZ}
+use mir.ValLaws.{toZ-ofZ}
+use Rattle.rules.specs.Kind.{word}
 use Rattle.rules.specs.Decimal.{Pair, power, negPower, scaled, whole, back, isInfinite, isNegativeZero, beyond, exception, tried}
+use Rattle.rules.proofs.Rows.{neither}
+use Rattle.rules.proofs.Tries.{tried-is, tried-none}
 use Rattle.decimal.proofs.Rounding.{cap, normal, beyond-bits}
+use Rattle.decimal.proofs.Words.{word-back}
 
 -- ---- tests joined by ||
 
@@ -22,12 +28,6 @@ or-l a b e = cc
 or-r : (a b : Bool) → b ≡ true → (a || b) ≡ true
 or-r true b e = refl
 or-r false b e = e
-
-or-no : (a b : Bool) → a ≡ false → b ≡ false → (a || b) ≡ false
-or-no a b p q = cc
-
-never : {b : Bool} → b ≡ false → b ≡ true → ⊥
-never p q = let o : _≡_ {A = Bool} true false = sym q ∙ p in subst T o tt
 
 -- ---- a NaN or an infinity: the exponent's field is all ones
 
@@ -122,8 +122,7 @@ module _ (fmt : Format) (p : Pair) (v : ℕ) where
   exception-is = refl
 
   excepted : exception fmt p v ≡ true → none ≡ tried fmt p v
-  unfolding tried
-  excepted e = rw e refl
+  excepted e = sym (tried-none fmt p v e)
 
   special-excepted : special ≡ true → none ≡ tried fmt p v
   special-excepted e = excepted (exception-is ∙ or-l (special || beyond fmt (scaledOf fmt p v)) differs (or-l special (beyond fmt (scaledOf fmt p v)) e))
@@ -150,27 +149,27 @@ module _ (fmt : Format) (p : Pair) (v : ℕ) where
         (exception-is ∙ or-l (special || beyond fmt (scaledOf fmt p v)) differs
         (or-r special (beyond fmt (scaledOf fmt p v)) (ap (beyond fmt) (sym is) ∙ beyond-bits fmt b .1 h)))
 
-    -- past these tests, with the whole number z and the bits c that it comes back as
-    module _ (fits : v < 2 * top fmt) (low : v % top fmt < ones fmt * hid fmt) (other : v ≡ top fmt → ⊥) (inside : b % top fmt / hid fmt < cap fmt) (z : ℤ) (near : z ≡ whole (ofBits fmt b)) (c : ℕ) (came : c ≡ back fmt p z) where
-      whole-is : z ≡ whole (scaledOf fmt p v)
-      whole-is = near ∙ ap whole is
+    -- past these tests, with the whole number z in hand and the bits c that it, as the word x, comes back as
+    module _ (fits : v < 2 * top fmt) (low : v % top fmt < ones fmt * hid fmt) (other : v ≡ top fmt → ⊥) (inside : b % top fmt / hid fmt < cap fmt) (z : ℤ) (held : SFits (word fmt) z) (near : z ≡ whole (ofBits fmt b)) (x c : ℕ) (as-word : x ≡ ofZ (word fmt) (toZ (word fmt) (ofZ (word fmt) z))) (came : c ≡ back fmt p (toZ (word fmt) x)) where
+      number-is : toZ (word fmt) (ofZ (word fmt) z) ≡ whole (scaledOf fmt p v)
+      number-is = toZ-ofZ (word fmt) z held ∙ near ∙ ap whole is
+
+      came-is : c ≡ back fmt p (whole (scaledOf fmt p v))
+      came-is = came ∙ ap (back fmt p) (word-back (word fmt) z held x as-word ∙ number-is)
 
       by-differs : exception fmt p v ≡ differs
       unfolding special
       by-differs =
           exception-is
           ∙ ap (λ (t : Bool). t || differs)
-          (or-no special (beyond fmt (scaledOf fmt p v)) (or-no (notFinite (ofBits fmt v)) (isNegativeZero (ofBits fmt v)) (small fmt v low) (zero-only fmt v fits other)) (ap (beyond fmt) (sym is) ∙ beyond-bits fmt b .0 inside))
-
-      came-is : c ≡ back fmt p (whole (scaledOf fmt p v))
-      came-is = came ∙ ap (back fmt p) whole-is
+          (neither special (beyond fmt (scaledOf fmt p v)) (neither (notFinite (ofBits fmt v)) (isNegativeZero (ofBits fmt v)) (small fmt v low) (zero-only fmt v fits other)) (ap (beyond fmt) (sym is) ∙ beyond-bits fmt b .0 inside))
 
       pub by-back : (c ≡ v → ⊥) → none ≡ tried fmt p v
       unfolding differs
       by-back h = excepted (by-differs ∙ ap not (ne-eqb (back fmt p (whole (scaledOf fmt p v))) v (λ e. h (came-is ∙ e))))
 
-      pub kept : c ≡ v → some z ≡ tried fmt p v
-      unfolding differs tried
+      pub kept : c ≡ v → some (toZ (word fmt) (ofZ (word fmt) z)) ≡ tried fmt p v
+      unfolding differs
       kept h =
           let e : exception fmt p v ≡ false = by-differs ∙ ap not (eq-eqb (back fmt p (whole (scaledOf fmt p v))) v (sym came-is ∙ h)) in
-          rw e (ap some whole-is)
+          ap some number-is ∙ sym (tried-is fmt p v e)

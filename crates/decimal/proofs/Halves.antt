@@ -1,6 +1,6 @@
 -- A word read as signed, made a float from its halves: the upper half, signed, times 2 ^ h, plus the lower half. Only the sum rounds.
 -- Assumes nothing.
-use mathlib.Core.Path.{_≡_, refl, sym, ap, subst, _∙_}
+use mathlib.Core.Path.{_≡_, refl, sym, ap, ap₂, subst, _∙_}
 use mathlib.Core.Logic.{_⊎_, inl, inr}
 use Prim.Native.Nat.{ℕ, suc, _+_, _-_, _*_, _/_, _%_, _^_, _≤_, _<_}
 use native.Mathlib.Nat.{mul-one, mul-assoc, mul-comm, add-mul, mul-pos, mul-lt-mul-of-pos-right, mul-sub, lt-of-lt-of-le}
@@ -16,8 +16,8 @@ use lib.Ieee.Exact.{HasValue, round-exact}
 use lib.Ieee.Back.{round-whole}
 use lib.Ieee.Scale.{round-same}
 use mir.Syntax.{Width, w16, w32}
-use mir.Val.{bits, hbits, toZ, sel}
-use mir.ValLaws.{toZ-pos}
+use mir.Val.{bits, hbits, SFits, toZ, ofZ, sel}
+use mir.ValLaws.{toZ-pos, toZ-ofZ}
 use Rattle.rules.specs.Kind.{word, wordBits}
 use Rattle.decimal.proofs.Products.{product-of}
 
@@ -176,15 +176,16 @@ lt-or-ge n m = go (ltb n m) (ltb→lt n m) (nltb→le n m)
     go true f g = inl (f tt)
     go false f g = inr (g tt)
 
--- the float nearest to the word s read as signed, from the upper half read as signed, h
-pub halves-nearest : (fmt : Format) (s : ℕ) (h : ℤ) → s < 2 ^ wordBits fmt → h ≡ toZ (half fmt) (s / 2 ^ bits (half fmt))
-    → add fmt (mul fmt (ofInt fmt h) (unit fmt)) (ofInt fmt (pos (s % 2 ^ bits (half fmt)))) ≡ ofInt fmt (toZ (word fmt) s)
-halves-nearest fmt s h l e = ap (λ (z : ℤ). made fmt z (lower fmt s)) e ∙ go (lt-or-ge (upper fmt s) (2 ^ hbits (half fmt)))
+-- the float nearest to the word s read as signed, as the code makes it: r is the upper half read as signed, u the literal 2 ^ h
+pub halves-nearest : (fmt : Format) (s : ℕ) (r : ℤ) (u : Float) → s < 2 ^ wordBits fmt → SFits (half fmt) r → r ≡ toZ (half fmt) (s / 2 ^ bits (half fmt)) → u ≡ unit fmt
+    → add fmt (mul fmt (ofInt fmt (toZ (half fmt) (ofZ (half fmt) r))) u) (ofInt fmt (pos (s % 2 ^ bits (half fmt)))) ≡ ofInt fmt (toZ (word fmt) s)
+halves-nearest fmt s r u l f e g =
+    ap₂ (λ (z : ℤ) (x : Float). add fmt (mul fmt (ofInt fmt z) x) (ofInt fmt (pos (lower fmt s)))) (toZ-ofZ (half fmt) r f ∙ e) g ∙ go (lt-or-ge (upper fmt s) (2 ^ hbits (half fmt)))
   where
     go : (upper fmt s < 2 ^ hbits (half fmt)) ⊎ (2 ^ hbits (half fmt) ≤ upper fmt s) → made fmt (toZ (half fmt) (upper fmt s)) (lower fmt s) ≡ ofInt fmt (toZ (word fmt) s)
-    go (inl u) =
-        let n = positive fmt s u in
-        ap (λ (z : ℤ). made fmt z (lower fmt s)) (toZ-pos (half fmt) (upper fmt s) u) ∙ at-pos fmt s n ∙ sym (ap (ofInt fmt) (toZ-pos (word fmt) s (n .inside)))
-    go (inr g) =
-        let n = negative fmt s l g in
-        ap (λ (z : ℤ). made fmt z (lower fmt s)) (toZ-high (half fmt) (upper fmt s) g) ∙ at-neg fmt s n ∙ sym (ap (ofInt fmt) (toZ-high (word fmt) s (n .above)))
+    go (inl k) =
+        let n = positive fmt s k in
+        ap (λ (z : ℤ). made fmt z (lower fmt s)) (toZ-pos (half fmt) (upper fmt s) k) ∙ at-pos fmt s n ∙ sym (ap (ofInt fmt) (toZ-pos (word fmt) s (n .inside)))
+    go (inr k) =
+        let n = negative fmt s l k in
+        ap (λ (z : ℤ). made fmt z (lower fmt s)) (toZ-high (half fmt) (upper fmt s) k) ∙ at-neg fmt s n ∙ sym (ap (ofInt fmt) (toZ-high (word fmt) s (n .above)))

@@ -1,22 +1,24 @@
--- The tables of powers by their bits: one computed test says of each entry that it is the power, finite and not zero. So floats that
--- are a pair's powers take a value to its scaled value and a whole number back, and never to a NaN. Assumes nothing.
+-- The tables of powers by their bits: one computed test says of each entry that it is the power. And floats that are a pair's powers take a
+-- value to its scaled value and a whole number back, and never to a NaN. Assumes nothing.
 use mathlib.Core.Path.{_≡_, refl, sym, ap, _∙_, subst}
-use mathlib.Core.Bool.{Bool, false, not, _&&_}
+use mathlib.Core.Bool.{Bool, false, not}
 use mathlib.Core.List.{List, [], _∷_, map}
 use Prim.Native.Nat.{ℕ, zero, suc, _^_, _≤_, _<_}
-use native.Mathlib.Nat.{le-trans, le-of-suc-le-suc, not-suc-le-zero}
+use native.Mathlib.Nat.{le-of-suc-le-suc, not-suc-le-zero}
 use native.Mathlib.Omega.{arith}
 use lib.Dec.{T, eqb, eqb→eq}
 use lib.ListN.{length, getD}
 use lib.IntN.{ℤ}
-use lib.Ieee.{Float, nan, Format, binary32, binary64, round, mul, ofInt, ofBits, toBits, fits, nanBits}
-use lib.Ieee.Fits.{round-fits, and-l, and-r}
-use lib.Ieee.Bits.{ofBits-toBits, nanBits-is}
+use lib.Ieee.{Float, nan, Format, binary32, binary64, round, mul, ofInt, ofBits, toBits, fits, isNan, nanBits}
+use lib.Ieee.Fits.{round-fits}
+use lib.Ieee.Bits.{ofBits-toBits}
 use Rattle.rules.specs.Kind.{maxExponent}
 use Rattle.rules.specs.Decimal.{Pair, power, negPower, scaled, back}
+use Rattle.rules.specs.Floats.{broughtBack}
+use Rattle.rules.proofs.Powers.{scaled-bits-no-nan, back-no-nan}
 use Rattle.decimal.specs.Scale.{Scales}
 use Rattle.decimal.proofs.Entries.{every, at}
-use Rattle.decimal.proofs.Products.{Real, solid, two-products, mul-real, ofInt-real}
+use Rattle.decimal.proofs.Products.{two-products}
 
 -- ---- the tables
 
@@ -40,9 +42,9 @@ negPowers binary64 =
     ∷ 4427486594234968593 ∷ 4412443251819771522 ∷ 4397347889687374747 ∷ 4382569440205035030 ∷ 4367597403136100796 ∷ 4352464011485697175
     ∷ 4337655138388951980 ∷ []
 
--- entry k is the power's bits, and the power is solid
+-- entry k is the power's bits
 right : Format → (ℕ → Float) → ℕ → ℕ → Bool
-right fmt want k x = eqb x (toBits fmt (want k)) && solid (want k)
+right fmt want k x = eqb x (toBits fmt (want k))
 
 powers-right : (fmt : Format) → T (every (right fmt (power fmt)) 0 (powers fmt))
 unfolding right power round toBits
@@ -71,56 +73,45 @@ mapped g [] k h = absurd (not-suc-le-zero h)
 mapped g (x ∷ xs) zero h = refl
 mapped g (x ∷ xs) (suc k) h = mapped g xs k (le-of-suc-le-suc h)
 
-module _ (fmt : Format) (want : ℕ → Float) (xs : List ℕ) (fit : (k : ℕ) → T (fits fmt (want k))) (t : T (every (right fmt want) 0 xs)) (k : ℕ) (h : k < length xs) where
-  -- what a table of floats holds at k
-  entry : getD (map (ofBits fmt) xs) k nan ≡ want k
-  unfolding right
-  entry =
-      mapped (ofBits fmt) xs k h
-      ∙ ap (ofBits fmt) (eqb→eq (getD xs k 0) (toBits fmt (want k)) (and-l (eqb (getD xs k 0) (toBits fmt (want k))) (solid (want k)) (at (right fmt want) xs t k h)))
-      ∙ ofBits-toBits fmt (want k) (fit k)
+-- what a table of floats holds at k
+entry : (fmt : Format) (want : ℕ → Float) (xs : List ℕ) → ((k : ℕ) → T (fits fmt (want k))) → T (every (right fmt want) 0 xs) → (k : ℕ) → k < length xs → getD (map (ofBits fmt) xs) k nan ≡ want k
+unfolding right
+entry fmt want xs fit t k h =
+    mapped (ofBits fmt) xs k h ∙ ap (ofBits fmt) (eqb→eq (getD xs k 0) (toBits fmt (want k)) (at (right fmt want) xs t k h)) ∙ ofBits-toBits fmt (want k) (fit k)
 
-  is-solid : T (solid (want k))
-  unfolding right
-  is-solid = and-r (eqb (getD xs k 0) (toBits fmt (want k))) (solid (want k)) (at (right fmt want) xs t k h)
+pub power-at : (fmt : Format) (k : ℕ) → k ≤ maxExponent fmt → getD (map (ofBits fmt) (powers fmt)) k nan ≡ power fmt k
+power-at fmt k h = entry fmt (power fmt) (powers fmt) (power-fits fmt) (powers-right fmt) k (long fmt k h .0)
 
-module _ (fmt : Format) (k : ℕ) (h : k ≤ maxExponent fmt) where
-  pub power-at : getD (map (ofBits fmt) (powers fmt)) k nan ≡ power fmt k
-  power-at = entry fmt (power fmt) (powers fmt) (power-fits fmt) (powers-right fmt) k (long fmt k h .0)
-
-  pub negPower-at : getD (map (ofBits fmt) (negPowers fmt)) k nan ≡ negPower fmt k
-  negPower-at = entry fmt (negPower fmt) (negPowers fmt) (negPower-fits fmt) (negPowers-right fmt) k (long fmt k h .1)
-
-  power-solid : T (solid (power fmt k))
-  power-solid = is-solid fmt (power fmt) (powers fmt) (power-fits fmt) (powers-right fmt) k (long fmt k h .0)
-
-  negPower-solid : T (solid (negPower fmt k))
-  negPower-solid = is-solid fmt (negPower fmt) (negPowers fmt) (negPower-fits fmt) (negPowers-right fmt) k (long fmt k h .1)
+pub negPower-at : (fmt : Format) (k : ℕ) → k ≤ maxExponent fmt → getD (map (ofBits fmt) (negPowers fmt)) k nan ≡ negPower fmt k
+negPower-at fmt k h = entry fmt (negPower fmt) (negPowers fmt) (negPower-fits fmt) (negPowers-right fmt) k (long fmt k h .1)
 
 -- ---- with a pair's powers
 
-module _ {fmt : Format} {p : Pair} {a b c d : Float} (s : Scales fmt p a b c d) where
-  factor-inside : p .factor ≤ maxExponent fmt
-  factor-inside = le-trans (s .allowed .factor) (s .allowed .exponent)
+-- a float that is no NaN, as the machine asks it of one whose bits are taken
+abbrev Real : Float → Type 0
+Real x = T (not (isNan x))
 
-  pub scaled-is : (x : Float) → mul fmt (mul fmt x a) b ≡ scaled fmt p x
+real : (x y : Float) → x ≡ y → isNan y ≡ false → Real x
+real x y e h = subst (λ (b : Bool). T (not b)) (sym (ap isNan e ∙ h)) tt
+
+module _ {fmt : Format} {p : Pair} {a b c d : Float} (s : Scales fmt p a b c d) where
+  scaled-same : (x : Float) → mul fmt (mul fmt x a) b ≡ scaled fmt p x
   unfolding scaled
-  scaled-is x = two-products fmt refl (s .up-exponent) (s .down-factor)
+  scaled-same x = two-products fmt refl (s .up-exponent) (s .down-factor)
+
+  pub scaled-is : (v : ℕ) → toBits fmt (mul fmt (mul fmt (ofBits fmt v) a) b) ≡ toBits fmt (scaled fmt p (ofBits fmt v))
+  scaled-is v = ap (toBits fmt) (scaled-same (ofBits fmt v))
 
   pub scaled-real : (v : ℕ) → nanBits fmt v ≡ false → Real (mul fmt (mul fmt (ofBits fmt v) a) b)
-  scaled-real v h =
-      mul-real fmt (mul fmt (ofBits fmt v) a) b
-      (mul-real fmt (ofBits fmt v) a (subst (λ (t : Bool). T (not t)) (sym h ∙ nanBits-is fmt v) tt)
-      (subst (λ (x : Float). T (solid x)) (sym (s .up-exponent)) (power-solid fmt (p .exponent) (s .allowed .exponent))))
-      (subst (λ (x : Float). T (solid x)) (sym (s .down-factor)) (negPower-solid fmt (p .factor) factor-inside))
+  scaled-real v h = real (mul fmt (mul fmt (ofBits fmt v) a) b) (scaled fmt p (ofBits fmt v)) (scaled-same (ofBits fmt v)) (scaled-bits-no-nan fmt p (s .allowed) v h)
 
   module _ (z : ℤ) {x : Float} (e : x ≡ ofInt fmt z) where
+    back-same : mul fmt (mul fmt x c) d ≡ broughtBack fmt p z
+    back-same = two-products fmt e (s .up-factor) (s .down-exponent)
+
     pub back-is : toBits fmt (mul fmt (mul fmt x c) d) ≡ back fmt p z
     unfolding back
-    back-is = ap (toBits fmt) (two-products fmt e (s .up-factor) (s .down-exponent))
+    back-is = ap (toBits fmt) back-same
 
     pub back-real : Real (mul fmt (mul fmt x c) d)
-    back-real =
-        mul-real fmt (mul fmt x c) d
-        (mul-real fmt x c (subst Real (sym e) (ofInt-real fmt z)) (subst (λ (y : Float). T (solid y)) (sym (s .up-factor)) (power-solid fmt (p .factor) factor-inside)))
-        (subst (λ (y : Float). T (solid y)) (sym (s .down-exponent)) (negPower-solid fmt (p .exponent) (s .allowed .exponent)))
+    back-real = real (mul fmt (mul fmt x c) d) (broughtBack fmt p z) back-same (back-no-nan fmt p (s .allowed) z)

@@ -7,16 +7,18 @@ use native.Mathlib.Nat.{lt-of-le-of-lt, le-of-lt, le-trans, lt-irrefl, lt-of-lt-
 use native.Mathlib.Omega.{arith}
 use lib.Dec.{leb, ltb, eqb, lit<, lit≤}
 use lib.Pow.{pow-pos, pow-mono}
-use lib.IntN.{pos, negℤ}
+use lib.IntN.{pos, negℤ, _-ℤ_}
 use lib.Ieee.{Float, nan, inf, fin, Format, binary32, binary64, prec, emax, low, hid, ones, top, up, down, odd, ofFields, ofBits}
 use lib.Ieee.Exact.{HasValue, odd-sign}
 use lib.Ieee.Fits.{down-pos}
 use lib.Ieee.Nearest.{closest, closest-same, closest-mono}
 use borrow.Author.Tests.{lt-ltb, le-ltb, le-leb, lt-leb, ne-eqb}
-use mir.Val.{hbits}
+use mir.Val.{hbits, SFits, toZ, ofZ}
+use mir.ValLaws.{toZ-pos}
 use Rattle.rules.specs.Kind.{word, maxScaled}
 use Rattle.rules.specs.Decimal.{signed, whole, beyond}
 use Rattle.decimal.proofs.Closest.{closest-whole, closest-zero}
+use Rattle.decimal.proofs.Words.{minus-fits, minus-back}
 
 -- ---- what a value's size says
 pub near-val : (v : Float) (s : Bool) (a c : ℕ) → 0 < c → HasValue v s a c → whole v ≡ signed s (closest a c)
@@ -158,24 +160,27 @@ pub beyond-bits : (fmt : Format) (b : ℕ) → (b % top fmt / hid fmt < cap fmt 
 unfolding ofBits
 beyond-bits fmt b = beyond-fields fmt (leb (top fmt) b) (b % top fmt / hid fmt) (b % hid fmt) (mod-lt b (pow-pos (prec fmt - 1)))
 
--- what the code computes, n, is the magnitude: it is at most L, and with the sign it is the whole number
+-- ---- what the code computes, n, as the magnitude of the value with the bits b
+
+-- n is a signed number of the kind's word, and so is 0 less n; with the sign it is the whole number
 pub record Near (fmt : Format) (b n : ℕ) : Type 0 where
-  pub most : n ≤ maxScaled fmt
-  pub plus : b < top fmt → pos n ≡ whole (ofBits fmt b)
-  pub less : top fmt ≤ b → negℤ (pos n) ≡ whole (ofBits fmt b)
+  pub fits : SFits (word fmt) (pos n)
+  pub minus : SFits (word fmt) (pos 0 -ℤ toZ (word fmt) n)
+  pub plus : b < top fmt → toZ (word fmt) n ≡ whole (ofBits fmt b)
+  pub less : top fmt ≤ b → toZ (word fmt) (ofZ (word fmt) (pos 0 -ℤ toZ (word fmt) n)) ≡ whole (ofBits fmt b)
+
+limit-lt : (fmt : Format) → maxScaled fmt < 2 ^ hbits (word fmt)
+limit-lt binary32 = lit< tt
+limit-lt binary64 = lit< tt
 
 pub near : (fmt : Format) (b n : ℕ) → b % top fmt / hid fmt < cap fmt → n ≡ closest ((hid fmt + b % hid fmt) * 2 ^ (b % top fmt / hid fmt)) (2 ^ suc (low fmt)) → Near fmt b n
 near fmt b n h e =
     let c = closest ((hid fmt + b % hid fmt) * 2 ^ (b % top fmt / hid fmt)) (2 ^ suc (low fmt)) in
+    let most : c ≤ maxScaled fmt = in-range fmt (b % top fmt / hid fmt) (b % hid fmt) h (mod-lt b (pow-pos (prec fmt - 1))) in
+    let l : n < 2 ^ hbits (word fmt) = lt-of-le-of-lt (subst (λ (y : ℕ). y ≤ maxScaled fmt) (sym e) most) (limit-lt fmt) in
     record {
-      most = subst (λ (y : ℕ). y ≤ maxScaled fmt) (sym e) (in-range fmt (b % top fmt / hid fmt) (b % hid fmt) h (mod-lt b (pow-pos (prec fmt - 1))));
-      plus = (λ l. ap pos e ∙ ap (λ (s : Bool). signed s c) (sym (lt-leb (top fmt) b l)) ∙ sym (whole-bits fmt b h));
-      less = (λ l. ap (λ (y : ℕ). negℤ (pos y)) e ∙ ap (λ (s : Bool). signed s c) (sym (le-leb (top fmt) b l)) ∙ sym (whole-bits fmt b h))
+      fits = record { sfits = l };
+      minus = minus-fits (word fmt) n l;
+      plus = (λ k. toZ-pos (word fmt) n l ∙ ap pos e ∙ ap (λ (s : Bool). signed s c) (sym (lt-leb (top fmt) b k)) ∙ sym (whole-bits fmt b h));
+      less = (λ k. minus-back (word fmt) n l ∙ ap (λ (y : ℕ). negℤ (pos y)) e ∙ ap (λ (s : Bool). signed s c) (sym (le-leb (top fmt) b k)) ∙ sym (whole-bits fmt b h))
     }
-
-pub near-lt : (fmt : Format) {b n : ℕ} → Near fmt b n → n < 2 ^ hbits (word fmt)
-near-lt fmt h = lt-of-le-of-lt (h .most) (limit-lt fmt)
-  where
-    limit-lt : (fmt : Format) → maxScaled fmt < 2 ^ hbits (word fmt)
-    limit-lt binary32 = lit< tt
-    limit-lt binary64 = lit< tt

@@ -1,10 +1,5 @@
-use mir.Val.{toZ, ofZ}
-use mathlib.Core.Path.{_≡_, refl, ap, _∙_}
-use Prim.Native.Nat.{_%_, _^_}
-use lib.IntN.{ℤ, pos}
-use lib.Ieee.{Float, fin, binary32, ofInt, ofBits, mul, add}
-use mir.Syntax.{w16}
-use mir.Facts.{toZ-ofZ}
+use mathlib.Core.Path.{_≡_, refl}
+use lib.Ieee.{binary32, ofBits}
 use Rattle.decimal.proofs.Halves.{unit, halves-nearest}
 use borrow.Author.Needs.{needs}
 use Rattle.decimal.proofs.back.nearest_float32.Statement.{statement}
@@ -40,11 +35,7 @@ int-to-float-result-2 c = search needs
 
 -- src/back.rt:25:1
 returns : tie.Need-returns
-returns c =
-    let s = c .before .before .before .args .word in
-    let h = toZ w16 (ofZ w16 (c .before .before .of-word16 .result)) in
-    ap (λ (x : Float). add binary32 (mul binary32 (ofInt binary32 h) x) (ofInt binary32 (pos (s % 2 ^ 16)))) literal
-    ∙ halves-nearest binary32 s h (c .before .before .before .fits .word .fits) (toZ-ofZ {w = w16} (record { sfits = c .before .before .of-word16 .ok }) ∙ c .before .before .of-word16 .ensures)
+returns c = halves-nearest binary32 _ _ _ (c .before .before .before .fits .word .fits) (record { sfits = c .before .before .of-word16 .ok }) (c .before .before .of-word16 .ensures) literal
 
 pub nearest-float32-spec : {M : Type 1} → statement M
 nearest-float32-spec =

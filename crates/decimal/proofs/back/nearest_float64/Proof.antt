@@ -1,10 +1,5 @@
-use mir.Val.{toZ, ofZ}
-use mathlib.Core.Path.{_≡_, refl, ap, _∙_}
-use Prim.Native.Nat.{_%_, _^_}
-use lib.IntN.{ℤ, pos}
-use lib.Ieee.{Float, fin, binary64, ofInt, ofBits, mul, add}
-use mir.Syntax.{w32}
-use mir.Facts.{toZ-ofZ}
+use mathlib.Core.Path.{_≡_, refl}
+use lib.Ieee.{binary64, ofBits}
 use Rattle.decimal.proofs.Halves.{unit, halves-nearest}
 use borrow.Author.Needs.{needs}
 use Rattle.decimal.proofs.back.nearest_float64.Statement.{statement}
@@ -40,11 +35,7 @@ int-to-float-result-2 c = search needs
 
 -- src/back.rt:17:1
 returns : tie.Need-returns
-returns c =
-    let s = c .before .before .before .args .word in
-    let h = toZ w32 (ofZ w32 (c .before .before .of-word32 .result)) in
-    ap (λ (x : Float). add binary64 (mul binary64 (ofInt binary64 h) x) (ofInt binary64 (pos (s % 2 ^ 32)))) literal
-    ∙ halves-nearest binary64 s h (c .before .before .before .fits .word .fits) (toZ-ofZ {w = w32} (record { sfits = c .before .before .of-word32 .ok }) ∙ c .before .before .of-word32 .ensures)
+returns c = halves-nearest binary64 _ _ _ (c .before .before .before .fits .word .fits) (record { sfits = c .before .before .of-word32 .ok }) (c .before .before .of-word32 .ensures) literal
 
 pub nearest-float64-spec : {M : Type 1} → statement M
 nearest-float64-spec =

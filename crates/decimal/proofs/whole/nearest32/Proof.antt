@@ -1,10 +1,5 @@
-use mathlib.Core.Path.{_∙_}
-use Prim.Native.Nat.{_^_, _<_}
 use lib.Ieee.{binary32}
-use mir.Syntax.{w32}
-use mir.ValLaws.{toZ-pos}
-use Rattle.decimal.proofs.Rounding.{Near, near, near-lt}
-use Rattle.decimal.proofs.Words.{minus-fits, minus-back}
+use Rattle.decimal.proofs.Rounding.{Near, near}
 use borrow.Author.Needs.{needs}
 use Rattle.decimal.proofs.whole.nearest32.Statement.{statement}
 use Rattle.decimal.proofs.whole.nearest32.Tie as tie
@@ -14,9 +9,6 @@ use Rattle.decimal.proofs.whole.shifted.Reads as shifted-reads
 
 is : (c : tie.After-shifted) → Near binary32 (c .before .args .bits) (c .shifted .result)
 is c = near binary32 (c .before .args .bits) (c .shifted .result) (c .before .pre) (c .shifted .ensures)
-
-below : (c : tie.After-shifted) → c .shifted .result < 2 ^ 31
-below c = near-lt binary32 (is c)
 
 -- src/whole.rt:86:18
 add-digits : tie.Need-add-digits
@@ -36,23 +28,23 @@ shifted-requires c κs = search needs
 
 -- src/whole.rt:89:9
 cast-result : tie.Need-cast-result
-cast-result c = record { sfits = below (c .before) }
+cast-result c = is (c .before) .fits
 
 -- src/whole.rt:91:14
 cast-result-2 : tie.Need-cast-result-2
-cast-result-2 c = record { sfits = below (c .before) }
+cast-result-2 c = is (c .before) .fits
 
 -- src/whole.rt:91:9
 sub-result : tie.Need-sub-result
-sub-result c = minus-fits w32 _ (below (c .before))
+sub-result c = is (c .before) .minus
 
 -- src/whole.rt:81:1
 returns : tie.Need-returns
-returns c = toZ-pos w32 _ (below (c .before)) ∙ is (c .before) .plus (c .if1 .taken)
+returns c = is (c .before) .plus (c .if1 .taken)
 
 -- src/whole.rt:81:1
 returns-2 : tie.Need-returns-2
-returns-2 c = minus-back w32 _ (below (c .before)) ∙ is (c .before) .less (c .if1 .left)
+returns-2 c = is (c .before) .less (c .if1 .left)
 
 pub nearest32-spec : {M : Type 1} → statement M
 nearest32-spec =

@@ -1,10 +1,5 @@
-use mathlib.Core.Path.{_∙_}
-use Prim.Native.Nat.{_^_, _<_}
 use lib.Ieee.{binary64}
-use mir.Syntax.{w64}
-use mir.ValLaws.{toZ-pos}
-use Rattle.decimal.proofs.Rounding.{Near, near, near-lt}
-use Rattle.decimal.proofs.Words.{minus-fits, minus-back}
+use Rattle.decimal.proofs.Rounding.{Near, near}
 use borrow.Author.Needs.{needs}
 use Rattle.decimal.proofs.whole.nearest64.Statement.{statement}
 use Rattle.decimal.proofs.whole.nearest64.Tie as tie
@@ -14,9 +9,6 @@ use Rattle.decimal.proofs.whole.shifted.Reads as shifted-reads
 
 is : (c : tie.After-shifted) → Near binary64 (c .before .args .bits) (c .shifted .result)
 is c = near binary64 (c .before .args .bits) (c .shifted .result) (c .before .pre) (c .shifted .ensures)
-
-below : (c : tie.After-shifted) → c .shifted .result < 2 ^ 63
-below c = near-lt binary64 (is c)
 
 -- src/whole.rt:72:18
 add-digits : tie.Need-add-digits
@@ -28,23 +20,23 @@ shifted-requires c κs = search needs
 
 -- src/whole.rt:75:9
 cast-result : tie.Need-cast-result
-cast-result c = record { sfits = below (c .before) }
+cast-result c = is (c .before) .fits
 
 -- src/whole.rt:77:14
 cast-result-2 : tie.Need-cast-result-2
-cast-result-2 c = record { sfits = below (c .before) }
+cast-result-2 c = is (c .before) .fits
 
 -- src/whole.rt:77:9
 sub-result : tie.Need-sub-result
-sub-result c = minus-fits w64 _ (below (c .before))
+sub-result c = is (c .before) .minus
 
 -- src/whole.rt:67:1
 returns : tie.Need-returns
-returns c = toZ-pos w64 _ (below (c .before)) ∙ is (c .before) .plus (c .if1 .taken)
+returns c = is (c .before) .plus (c .if1 .taken)
 
 -- src/whole.rt:67:1
 returns-2 : tie.Need-returns-2
-returns-2 c = minus-back w64 _ (below (c .before)) ∙ is (c .before) .less (c .if1 .left)
+returns-2 c = is (c .before) .less (c .if1 .left)
 
 pub nearest64-spec : {M : Type 1} → statement M
 nearest64-spec =

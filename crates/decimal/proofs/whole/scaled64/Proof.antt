@@ -1,7 +1,6 @@
-use mathlib.Core.Path.{sym, ap, subst}
+use mathlib.Core.Path.{sym, subst}
 use mathlib.Core.Bool.{Bool, not}
 use lib.Dec.{T}
-use lib.Ieee.{binary64, toBits}
 use Rattle.decimal.proofs.Powers.{scaled-is, scaled-real}
 use Rattle.decimal.proofs.whole.scaled64.Statement.{statement}
 use Rattle.decimal.proofs.whole.scaled64.Tie as tie
@@ -18,7 +17,7 @@ float-to-bits-result c = scaled-real (c .before .before .pre .0) _ (c .before .b
 
 -- src/whole.rt:26:1
 returns : tie.Need-returns
-returns c = ap (toBits binary64) (scaled-is (c .before .before .pre .0) _)
+returns c = scaled-is (c .before .before .pre .0) _
 
 pub scaled64-spec : {M : Type 1} → statement M
 scaled64-spec = tie.close (tie.spec float-from-bits-result float-to-bits-result returns)

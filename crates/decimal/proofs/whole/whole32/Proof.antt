@@ -1,12 +1,4 @@
-use mathlib.Core.Path.{_≡_, sym, ap, _∙_}
-use lib.IntN.{ℤ}
-use lib.Ieee.{binary32, ofBits}
-use mir.Syntax.{w32}
-use mir.Val.{toZ, ofZ}
-use mir.Facts.{toZ-ofZ}
-use Rattle.rules.specs.Decimal.{whole, back}
-use Rattle.decimal.specs.Scale.{pair32}
-use Rattle.decimal.proofs.Words.{word-back}
+use lib.Ieee.{binary32}
 use Rattle.decimal.proofs.Exceptions.{no-nan, by-large, by-zero, by-scaled, by-back, kept}
 use borrow.Author.Needs.{needs}
 use Rattle.decimal.proofs.whole.whole32.Statement.{statement}
@@ -17,17 +9,6 @@ use Rattle.decimal.proofs.back.back32.Reads as back32-reads
 use Rattle.decimal.proofs.signed.to_word32.Reads as to-word32-reads
 use Rattle.decimal.proofs.whole.nearest32.Reads as nearest32-reads
 use Rattle.decimal.proofs.whole.scaled32.Reads as scaled32-reads
-
--- the whole number in hand
-abbrev number : (c : tie.After-nearest32) → ℤ
-number c = toZ w32 (ofZ w32 (c .nearest32 .result))
-
-near : (c : tie.After-nearest32) → number c ≡ whole (ofBits binary32 (c .before .before .scaled32 .result))
-near c = toZ-ofZ (record { sfits = c .nearest32 .ok }) ∙ c .nearest32 .ensures
-
--- what it comes back as
-came : (c : tie.After-back32) → c .back32 .result ≡ back binary32 (pair32 (c .before .before .before .before .before .before .before .args .scale)) (number (c .before .before))
-came c = c .back32 .ensures ∙ ap (back binary32 (pair32 (c .before .before .before .before .before .before .before .args .scale))) (word-back w32 (c .before .before .nearest32 .result) (record { sfits = c .before .before .nearest32 .ok }) _ (c .before .to-word32 .ensures))
 
 -- src/whole.rt:124:9
 returns : tie.Need-returns
@@ -60,12 +41,12 @@ back32-requires c κs = search needs
 -- src/whole.rt:136:9
 returns-4 : tie.Need-returns-4
 returns-4 c =
-    by-back binary32 _ _ _ (c .before .before .before .before .before .scaled32 .ensures) (c .before .before .before .before .before .before .before .before .fits .value .fits) (c .before .before .before .before .before .before .before .if1 .left) (c .before .before .before .before .before .before .if2 .left) (c .before .before .before .before .if3 .left) (number (c .before .before .before)) (near (c .before .before .before)) _ (came (c .before)) (c .if4 .taken)
+    by-back binary32 _ _ _ (c .before .before .before .before .before .scaled32 .ensures) (c .before .before .before .before .before .before .before .before .fits .value .fits) (c .before .before .before .before .before .before .before .if1 .left) (c .before .before .before .before .before .before .if2 .left) (c .before .before .before .before .if3 .left) _ (record { sfits = c .before .before .before .nearest32 .ok }) (c .before .before .before .nearest32 .ensures) _ _ (c .before .before .to-word32 .ensures) (c .before .back32 .ensures) (c .if4 .taken)
 
 -- src/whole.rt:119:1
 returns-5 : tie.Need-returns-5
 returns-5 c =
-    kept binary32 _ _ _ (c .before .before .before .before .before .scaled32 .ensures) (c .before .before .before .before .before .before .before .before .fits .value .fits) (c .before .before .before .before .before .before .before .if1 .left) (c .before .before .before .before .before .before .if2 .left) (c .before .before .before .before .if3 .left) (number (c .before .before .before)) (near (c .before .before .before)) _ (came (c .before)) (c .if4 .left)
+    kept binary32 _ _ _ (c .before .before .before .before .before .scaled32 .ensures) (c .before .before .before .before .before .before .before .before .fits .value .fits) (c .before .before .before .before .before .before .before .if1 .left) (c .before .before .before .before .before .before .if2 .left) (c .before .before .before .before .if3 .left) _ (record { sfits = c .before .before .before .nearest32 .ok }) (c .before .before .before .nearest32 .ensures) _ _ (c .before .before .to-word32 .ensures) (c .before .back32 .ensures) (c .if4 .left)
 
 pub whole32-spec : {M : Type 1} → statement M
 whole32-spec =

@@ -1,12 +1,4 @@
-use mathlib.Core.Path.{_≡_, sym, ap, _∙_}
-use lib.IntN.{ℤ}
-use lib.Ieee.{binary64, ofBits}
-use mir.Syntax.{w64}
-use mir.Val.{toZ, ofZ}
-use mir.Facts.{toZ-ofZ}
-use Rattle.rules.specs.Decimal.{whole, back}
-use Rattle.decimal.specs.Scale.{pair64}
-use Rattle.decimal.proofs.Words.{word-back}
+use lib.Ieee.{binary64}
 use Rattle.decimal.proofs.Exceptions.{no-nan, by-large, by-zero, by-scaled, by-back, kept}
 use borrow.Author.Needs.{needs}
 use Rattle.decimal.proofs.whole.whole64.Statement.{statement}
@@ -17,17 +9,6 @@ use Rattle.decimal.proofs.back.back64.Reads as back64-reads
 use Rattle.decimal.proofs.signed.to_word64.Reads as to-word64-reads
 use Rattle.decimal.proofs.whole.nearest64.Reads as nearest64-reads
 use Rattle.decimal.proofs.whole.scaled64.Reads as scaled64-reads
-
--- the whole number in hand
-abbrev number : (c : tie.After-nearest64) → ℤ
-number c = toZ w64 (ofZ w64 (c .nearest64 .result))
-
-near : (c : tie.After-nearest64) → number c ≡ whole (ofBits binary64 (c .before .before .scaled64 .result))
-near c = toZ-ofZ (record { sfits = c .nearest64 .ok }) ∙ c .nearest64 .ensures
-
--- what it comes back as
-came : (c : tie.After-back64) → c .back64 .result ≡ back binary64 (pair64 (c .before .before .before .before .before .before .before .args .scale)) (number (c .before .before))
-came c = c .back64 .ensures ∙ ap (back binary64 (pair64 (c .before .before .before .before .before .before .before .args .scale))) (word-back w64 (c .before .before .nearest64 .result) (record { sfits = c .before .before .nearest64 .ok }) _ (c .before .to-word64 .ensures))
 
 -- src/whole.rt:102:9
 returns : tie.Need-returns
@@ -60,12 +41,12 @@ back64-requires c κs = search needs
 -- src/whole.rt:114:9
 returns-4 : tie.Need-returns-4
 returns-4 c =
-    by-back binary64 _ _ _ (c .before .before .before .before .before .scaled64 .ensures) (c .before .before .before .before .before .before .before .before .fits .value .fits) (c .before .before .before .before .before .before .before .if1 .left) (c .before .before .before .before .before .before .if2 .left) (c .before .before .before .before .if3 .left) (number (c .before .before .before)) (near (c .before .before .before)) _ (came (c .before)) (c .if4 .taken)
+    by-back binary64 _ _ _ (c .before .before .before .before .before .scaled64 .ensures) (c .before .before .before .before .before .before .before .before .fits .value .fits) (c .before .before .before .before .before .before .before .if1 .left) (c .before .before .before .before .before .before .if2 .left) (c .before .before .before .before .if3 .left) _ (record { sfits = c .before .before .before .nearest64 .ok }) (c .before .before .before .nearest64 .ensures) _ _ (c .before .before .to-word64 .ensures) (c .before .back64 .ensures) (c .if4 .taken)
 
 -- src/whole.rt:97:1
 returns-5 : tie.Need-returns-5
 returns-5 c =
-    kept binary64 _ _ _ (c .before .before .before .before .before .scaled64 .ensures) (c .before .before .before .before .before .before .before .before .fits .value .fits) (c .before .before .before .before .before .before .before .if1 .left) (c .before .before .before .before .before .before .if2 .left) (c .before .before .before .before .if3 .left) (number (c .before .before .before)) (near (c .before .before .before)) _ (came (c .before)) (c .if4 .left)
+    kept binary64 _ _ _ (c .before .before .before .before .before .scaled64 .ensures) (c .before .before .before .before .before .before .before .before .fits .value .fits) (c .before .before .before .before .before .before .before .if1 .left) (c .before .before .before .before .before .before .if2 .left) (c .before .before .before .before .if3 .left) _ (record { sfits = c .before .before .before .nearest64 .ok }) (c .before .before .before .nearest64 .ensures) _ _ (c .before .before .to-word64 .ensures) (c .before .back64 .ensures) (c .if4 .left)
 
 pub whole64-spec : {M : Type 1} → statement M
 whole64-spec =
