@@ -1,23 +1,33 @@
--- The exception rule by the tests that the code makes on bit patterns. Assumes nothing.
+-- The exception rule by the tests that the code makes on bit patterns: a NaN or an infinity by the exponent's field, a scaled value beyond L
+-- by its own, and the bits that come back, which are not those of negative zero. Assumes nothing.
 use mathlib.Core.Path.{_≡_, refl, sym, ap, _∙_, subst}
-use mathlib.Core.Bool.{Bool, true, false, not, _||_, cond}
+use mathlib.Core.Bool.{Bool, true, false, not, _||_, cond, false≢true}
 use mathlib.Core.Option.{none, some}
-use Prim.Native.Nat.{ℕ, zero, suc, _+_, _-_, _*_, _/_, _%_, _^_, _≤_, _<_}
-use native.Mathlib.Nat.{le-of-lt, zero-mul, zero-div}
+use Prim.Native.Nat.{ℕ, zero, suc, _+_, _-_, _*_, _/_, _%_, _^_, _≤_, _<_, zero-le}
+use native.Mathlib.Nat.{le-of-lt, le-trans, zero-mul, zero-div, mul-pos}
 use native.Mathlib.Omega.{arith}
-use lib.Dec.{T, eqb, leb}
+use lib.Dec.{T, eqb, leb, lit<}
 use lib.IntN.{ℤ, pos}
-use lib.Ieee.{Float, nan, inf, fin, Format, binary32, binary64, top, hid, ones, low, prec, size, up, down, odd, mul, isNan, toBits, ofBits, ofFields, nanBits}
+use lib.Ieee.{Float, nan, inf, fin, Format, binary32, binary64, top, hid, ones, low, prec, size, up, down, odd, round, mul, ofInt, isNan, toBits, ofBits, ofFields, nanBits}
 use lib.Ieee.Bits.{nanBits-above, ofBits-toBits, toBits-ofBits}
 use lib.Ieee.Fits.{mul-fits}
+use lib.Ieee.Exact.{HasValue}
+use lib.Ieee.Back.{round-whole}
+use lib.Ieee.Scale.{round-same}
+use lib.Ieee.Positive.{num, den, den-pos, positive, own-value}
 use borrow.Author.Tests.{le-ltb, eq-eqb, ne-eqb}
 use mir.Val.{SFits, toZ, ofZ}
 use mir.ValLaws.{toZ-ofZ}
-use Rattle.rules.specs.Kind.{word}
-use Rattle.rules.specs.Decimal.{Pair, power, negPower, scaled, whole, back, isInfinite, isNegativeZero, beyond, exception, tried}
+use Rattle.rules.specs.Kind.{word, maxExponent}
+use Rattle.rules.specs.Decimal.{Pair, power, negPower, scaled, signed, whole, back, isInfinite, isNegativeZero, beyond, exception, tried}
+use Rattle.rules.specs.Write.{Allowed}
+use Rattle.rules.specs.Floats.{broughtBack}
 use Rattle.rules.proofs.Rows.{neither}
 use Rattle.rules.proofs.Tries.{tried-is, tried-none}
-use Rattle.decimal.proofs.Rounding.{cap, normal, beyond-bits}
+use Rattle.rules.proofs.Powers.{power-positive, negPower-positive, back-bits}
+use Rattle.decimal.proofs.Products.{like, product-of}
+use Rattle.decimal.proofs.Closest.{closest-whole}
+use Rattle.decimal.proofs.Rounding.{cap, normal, near-val, beyond-bits}
 use Rattle.decimal.proofs.Words.{word-back}
 
 -- ---- tests joined by ||
@@ -75,10 +85,10 @@ no-nan fmt v h = nanBits-above fmt v ∙ le-ltb (ones fmt * hid fmt) (v % top fm
 
 -- ---- negative zero: the sign alone
 
-zero-there : (fmt : Format) → isNegativeZero (ofBits fmt (top fmt)) ≡ true
+zero-there : (fmt : Format) → HasValue (ofBits fmt (top fmt)) true 0 1
 unfolding ofBits
-zero-there binary32 = refl
-zero-there binary64 = refl
+zero-there binary32 = (refl, refl)
+zero-there binary64 = (refl, refl)
 
 zero-bits : (fmt : Format) (e : ℤ) → toBits fmt (fin true 0 e) ≡ toBits fmt (fin true 0 (pos 0))
 unfolding toBits
@@ -103,6 +113,46 @@ zero-only fmt v h o = go (ofBits fmt v) refl
     go (fin true zero d) e =
         let real : T (not (isNan (ofBits fmt v))) = subst (λ (x : Float). T (not (isNan x))) (sym e) tt in
         absurd (o (sym (toBits-ofBits fmt v h real) ∙ ap (toBits fmt) e ∙ zero-bits fmt d ∙ zero-top fmt))
+
+-- a zero of either sign, times a positive number, is that zero
+zero-times : (fmt : Format) (s : Bool) (x y : Float) → HasValue x s 0 1 → T (positive y) → HasValue (mul fmt x y) s 0 1
+zero-times fmt s x y h k =
+    let d = den y in
+    let none : 0 * num y * 1 ≡ 0 * (1 * d) = ap (λ (n : ℕ). n * 1) (zero-mul (num y)) ∙ sym (zero-mul (1 * d)) in
+    let e : mul fmt x y ≡ round fmt s 0 1 =
+    product-of fmt x y s false 0 1 (num y) d (lit< tt) (den-pos y) h (own-value y k)
+    ∙ ap (λ (t : Bool). round fmt t (0 * num y) (1 * d)) (like s)
+    ∙ round-same fmt s (0 * num y) (1 * d) 0 1 (mul-pos (lit< tt) (den-pos y)) (lit< tt) none in
+    subst (λ (z : Float). HasValue z s 0 1) (sym e) (round-whole fmt s 0 zero-le)
+
+module _ (fmt : Format) (p : Pair) (inside : Allowed fmt p) where
+  factor-in : p .factor ≤ maxExponent fmt
+  factor-in = le-trans (inside .factor) (inside .exponent)
+
+  -- negative zero's whole number is 0
+  zero-whole : whole (scaled fmt p (ofBits fmt (top fmt))) ≡ pos 0
+  unfolding scaled
+  zero-whole =
+      let x = mul fmt (ofBits fmt (top fmt)) (power fmt (p .exponent)) in
+      near-val (mul fmt x (negPower fmt (p .factor))) true 0 1 (lit< tt)
+      (zero-times fmt true x (negPower fmt (p .factor)) (zero-times fmt true (ofBits fmt (top fmt)) (power fmt (p .exponent)) (zero-there fmt) (power-positive fmt (p .exponent) (inside .exponent))) (negPower-positive fmt (p .factor) factor-in))
+      ∙ ap (signed true) (closest-whole 0)
+
+  -- which comes back with another sign
+  zero-back : HasValue (broughtBack fmt p (pos 0)) false 0 1
+  unfolding ofInt
+  zero-back =
+      zero-times fmt false (mul fmt (round fmt false 0 1) (power fmt (p .factor))) (negPower fmt (p .exponent))
+      (zero-times fmt false (round fmt false 0 1) (power fmt (p .factor)) (round-whole fmt false 0 zero-le) (power-positive fmt (p .factor) factor-in))
+      (negPower-positive fmt (p .exponent) (inside .exponent))
+
+  zero-lost : back fmt p (whole (scaled fmt p (ofBits fmt (top fmt)))) ≡ top fmt → ⊥
+  zero-lost e =
+      let same : broughtBack fmt p (pos 0) ≡ ofBits fmt (top fmt) = sym (back-bits fmt p (pos 0)) ∙ ap (ofBits fmt) (sym (ap (back fmt p) zero-whole) ∙ e) in
+      two-signs (broughtBack fmt p (pos 0)) zero-back (subst (λ (x : Float). HasValue x true 0 1) (sym same) (zero-there fmt))
+    where
+      two-signs : (x : Float) → HasValue x false 0 1 → HasValue x true 0 1 → ⊥
+      two-signs (fin s m e) h k = false≢true (sym (h .0) ∙ k .0)
 
 -- ---- the rule, at a pair p and a value's bits v
 
@@ -131,10 +181,6 @@ module _ (fmt : Format) (p : Pair) (v : ℕ) where
   unfolding special
   by-large h = special-excepted (or-l (notFinite (ofBits fmt v)) (isNegativeZero (ofBits fmt v)) (large fmt v h))
 
-  pub by-zero : v ≡ top fmt → none ≡ tried fmt p v
-  unfolding special
-  by-zero h = special-excepted (or-r (notFinite (ofBits fmt v)) (isNegativeZero (ofBits fmt v)) (ap (λ (n : ℕ). isNegativeZero (ofBits fmt n)) h ∙ zero-there fmt))
-
   -- b, the scaled value's bits
   module _ (b : ℕ) (at : b ≡ toBits fmt (scaledOf fmt p v)) where
     is : ofBits fmt b ≡ scaledOf fmt p v
@@ -150,26 +196,26 @@ module _ (fmt : Format) (p : Pair) (v : ℕ) where
         (or-r special (beyond fmt (scaledOf fmt p v)) (ap (beyond fmt) (sym is) ∙ beyond-bits fmt b .1 h)))
 
     -- past these tests, with the whole number z in hand and the bits c that it, as the word x, comes back as
-    module _ (fits : v < 2 * top fmt) (low : v % top fmt < ones fmt * hid fmt) (other : v ≡ top fmt → ⊥) (inside : b % top fmt / hid fmt < cap fmt) (z : ℤ) (held : SFits (word fmt) z) (near : z ≡ whole (ofBits fmt b)) (x c : ℕ) (as-word : x ≡ ofZ (word fmt) (toZ (word fmt) (ofZ (word fmt) z))) (came : c ≡ back fmt p (toZ (word fmt) x)) where
+    module _ (z : ℤ) (held : SFits (word fmt) z) (near : z ≡ whole (ofBits fmt b)) (x c : ℕ) (as-word : x ≡ ofZ (word fmt) (toZ (word fmt) (ofZ (word fmt) z))) (came : c ≡ back fmt p (toZ (word fmt) x)) where
       number-is : toZ (word fmt) (ofZ (word fmt) z) ≡ whole (scaledOf fmt p v)
       number-is = toZ-ofZ (word fmt) z held ∙ near ∙ ap whole is
 
       came-is : c ≡ back fmt p (whole (scaledOf fmt p v))
       came-is = came ∙ ap (back fmt p) (word-back (word fmt) z held x as-word ∙ number-is)
 
-      by-differs : exception fmt p v ≡ differs
-      unfolding special
-      by-differs =
-          exception-is
-          ∙ ap (λ (t : Bool). t || differs)
-          (neither special (beyond fmt (scaledOf fmt p v)) (neither (notFinite (ofBits fmt v)) (isNegativeZero (ofBits fmt v)) (small fmt v low) (zero-only fmt v fits other)) (ap (beyond fmt) (sym is) ∙ beyond-bits fmt b .0 inside))
-
       pub by-back : (c ≡ v → ⊥) → none ≡ tried fmt p v
       unfolding differs
-      by-back h = excepted (by-differs ∙ ap not (ne-eqb (back fmt p (whole (scaledOf fmt p v))) v (λ e. h (came-is ∙ e))))
+      by-back h =
+          excepted
+          (exception-is ∙ or-r (special || beyond fmt (scaledOf fmt p v)) differs (ap not (ne-eqb (back fmt p (whole (scaledOf fmt p v))) v (λ e. h (came-is ∙ e)))))
 
-      pub kept : c ≡ v → some (toZ (word fmt) (ofZ (word fmt) z)) ≡ tried fmt p v
-      unfolding differs
-      kept h =
-          let e : exception fmt p v ≡ false = by-differs ∙ ap not (eq-eqb (back fmt p (whole (scaledOf fmt p v))) v (sym came-is ∙ h)) in
+      pub kept : Allowed fmt p → v < 2 * top fmt → v % top fmt < ones fmt * hid fmt → b % top fmt / hid fmt < cap fmt → c ≡ v → some (toZ (word fmt) (ofZ (word fmt) z)) ≡ tried fmt p v
+      unfolding special differs
+      kept inside fits low under h =
+          let comes : back fmt p (whole (scaledOf fmt p v)) ≡ v = sym came-is ∙ h in
+          let other : v ≡ top fmt → ⊥ = λ e. zero-lost fmt p inside (ap (λ (n : ℕ). back fmt p (whole (scaledOf fmt p n))) (sym e) ∙ comes ∙ e) in
+          let plain : special ≡ false = neither (notFinite (ofBits fmt v)) (isNegativeZero (ofBits fmt v)) (small fmt v low) (zero-only fmt v fits other) in
+          let e : exception fmt p v ≡ false =
+          exception-is
+          ∙ neither (special || beyond fmt (scaledOf fmt p v)) differs (neither special (beyond fmt (scaledOf fmt p v)) plain (ap (beyond fmt) (sym is) ∙ beyond-bits fmt b .0 under)) (ap not (eq-eqb (back fmt p (whole (scaledOf fmt p v))) v comes)) in
           ap some number-is ∙ sym (tried-is fmt p v e)

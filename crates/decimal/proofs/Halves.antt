@@ -19,7 +19,7 @@ use mir.Syntax.{Width, w16, w32}
 use mir.Val.{bits, hbits, SFits, toZ, ofZ, sel}
 use mir.ValLaws.{toZ-pos, toZ-ofZ}
 use Rattle.rules.specs.Kind.{word, wordBits}
-use Rattle.decimal.proofs.Products.{product-of}
+use Rattle.decimal.proofs.Products.{like, product-of}
 
 -- ---- half of a word
 
@@ -39,10 +39,6 @@ unit fmt = fin false 1 (pos (places fmt))
 reaches : (fmt : Format) → prec fmt + (places fmt + low fmt) ≤ low fmt + suc (emax fmt)
 reaches binary32 = lit≤ tt
 reaches binary64 = lit≤ tt
-
-like : (t : Bool) → unlike t false ≡ t
-like true = refl
-like false = refl
 
 moved : (fmt : Format) (s : Bool) (a : ℕ) → a < 2 ^ prec fmt → HasValue (round fmt s (a * 2 ^ places fmt) 1) s (a * 2 ^ places fmt) 1
 moved fmt s a h =

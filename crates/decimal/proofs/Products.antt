@@ -1,7 +1,7 @@
 -- What a float multiplication promises, over whole numbers: the exact product of the two values as a fraction, rounded once. (What it is to
 -- be rounded once, to nearest and ties to even, is said over whole numbers too: theorems/Rounding, `product-once`.) Assumes nothing.
 use mathlib.Core.Path.{_≡_, refl, ap₂, _∙_}
-use mathlib.Core.Bool.{Bool}
+use mathlib.Core.Bool.{Bool, true, false}
 use Prim.Native.Nat.{ℕ, _*_, _<_}
 use native.Mathlib.Nat.{mul-assoc, mul-comm, mul-left-comm, mul-pos}
 use lib.IntN.{ℤ}
@@ -14,6 +14,11 @@ use lib.Ieee.Scale.{round-same}
 pub product : (fmt : Format) (s t : Bool) (m n : ℕ) (e d : ℤ) → mul fmt (fin s m e) (fin t n d) ≡ round fmt (unlike s t) (m * up e * (n * up d)) (down e * down d)
 unfolding mul
 product fmt s t m n e d = refl
+
+-- with a factor that is not negative
+pub like : (t : Bool) → unlike t false ≡ t
+like true = refl
+like false = refl
 
 swap : (a b c d : ℕ) → a * b * (c * d) ≡ a * c * (b * d)
 swap a b c d = simp (mul-assoc, mul-comm, mul-left-comm)

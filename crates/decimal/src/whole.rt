@@ -92,16 +92,13 @@ fn nearest32(bits: u32) -> i32
     }
 }
 
-// The exception rule: the first test is for a NaN or an infinity, the second for negative zero, the third for a scaled value beyond L;
-// the last compares bits, since as floats negative zero equals zero.
+// The exception rule: the first test is for a NaN or an infinity, the second for a scaled value beyond L. The last compares bits, and so it
+// finds negative zero too, which comes back as zero; as floats the two are equal.
 pub fn whole64(value: u64, scale: Scale64) -> Turned64
     requires { ⌜ Scales64 scale ⌝ }
     ensures { λ r. ⌜ asTry64 r ≡ tried binary64 (pair64 scale) value ⌝ }
 {
     if value % 0x8000_0000_0000_0000 >= 0x7FF0_0000_0000_0000 {
-        return Turned64::Exception;
-    }
-    if value == 0x8000_0000_0000_0000 {
         return Turned64::Exception;
     }
     let bits = scaled64(value, scale);
@@ -121,9 +118,6 @@ pub fn whole32(value: u32, scale: Scale32) -> Turned32
     ensures { λ r. ⌜ asTry32 r ≡ tried binary32 (pair32 scale) value ⌝ }
 {
     if value % 0x8000_0000 >= 0x7F80_0000 {
-        return Turned32::Exception;
-    }
-    if value == 0x8000_0000 {
         return Turned32::Exception;
     }
     let bits = scaled32(value, scale);

@@ -1,5 +1,5 @@
 use lib.Ieee.{binary32}
-use Rattle.decimal.proofs.Exceptions.{no-nan, by-large, by-zero, by-scaled, by-back, kept}
+use Rattle.decimal.proofs.Exceptions.{no-nan, by-large, by-scaled, by-back, kept}
 use borrow.Author.Needs.{needs}
 use Rattle.decimal.proofs.whole.whole32.Statement.{statement}
 use Rattle.decimal.proofs.whole.whole32.Tie as tie
@@ -10,54 +10,31 @@ use Rattle.decimal.proofs.signed.to_word32.Reads as to-word32-reads
 use Rattle.decimal.proofs.whole.nearest32.Reads as nearest32-reads
 use Rattle.decimal.proofs.whole.scaled32.Reads as scaled32-reads
 
--- src/whole.rt:124:9
 returns : tie.Need-returns
 returns c = by-large binary32 _ _ (c .if1 .taken)
 
--- src/whole.rt:127:9
-returns-2 : tie.Need-returns-2
-returns-2 c = by-zero binary32 _ _ (c .if2 .taken)
-
--- src/whole.rt:129:9
 scaled32-requires : tie.Need-scaled32-requires
-scaled32-requires c κs = (c .before .before .pre, no-nan binary32 _ (c .before .if1 .left))
+scaled32-requires c κs = (c .before .pre, no-nan binary32 _ (c .if1 .left))
 
--- src/whole.rt:131:9
-returns-3 : tie.Need-returns-3
-returns-3 c = by-scaled binary32 _ _ _ (c .before .scaled32 .ensures) (c .if3 .taken)
+returns-2 : tie.Need-returns-2
+returns-2 c = by-scaled binary32 _ _ _ (c .before .scaled32 .ensures) (c .if2 .taken)
 
--- src/whole.rt:133:9
 nearest32-requires : tie.Need-nearest32-requires
 nearest32-requires c κs = search needs
 
--- src/whole.rt:134:23
 to-word32-requires : tie.Need-to-word32-requires
 to-word32-requires c κs = search needs
 
--- src/whole.rt:134:9
 back32-requires : tie.Need-back32-requires
 back32-requires c κs = search needs
 
--- src/whole.rt:136:9
+returns-3 : tie.Need-returns-3
+returns-3 c =
+    by-back binary32 _ _ _ (c .before .before .before .before .before .scaled32 .ensures) _ (record { sfits = c .before .before .before .nearest32 .ok }) (c .before .before .before .nearest32 .ensures) _ _ (c .before .before .to-word32 .ensures) (c .before .back32 .ensures) (c .if3 .taken)
+
 returns-4 : tie.Need-returns-4
 returns-4 c =
-    by-back binary32 _ _ _ (c .before .before .before .before .before .scaled32 .ensures) (c .before .before .before .before .before .before .before .before .fits .value .fits) (c .before .before .before .before .before .before .before .if1 .left) (c .before .before .before .before .before .before .if2 .left) (c .before .before .before .before .if3 .left) _ (record { sfits = c .before .before .before .nearest32 .ok }) (c .before .before .before .nearest32 .ensures) _ _ (c .before .before .to-word32 .ensures) (c .before .back32 .ensures) (c .if4 .taken)
-
--- src/whole.rt:119:1
-returns-5 : tie.Need-returns-5
-returns-5 c =
-    kept binary32 _ _ _ (c .before .before .before .before .before .scaled32 .ensures) (c .before .before .before .before .before .before .before .before .fits .value .fits) (c .before .before .before .before .before .before .before .if1 .left) (c .before .before .before .before .before .before .if2 .left) (c .before .before .before .before .if3 .left) _ (record { sfits = c .before .before .before .nearest32 .ok }) (c .before .before .before .nearest32 .ensures) _ _ (c .before .before .to-word32 .ensures) (c .before .back32 .ensures) (c .if4 .left)
+    kept binary32 _ _ _ (c .before .before .before .before .before .scaled32 .ensures) _ (record { sfits = c .before .before .before .nearest32 .ok }) (c .before .before .before .nearest32 .ensures) _ _ (c .before .before .to-word32 .ensures) (c .before .back32 .ensures) (c .before .before .before .before .before .before .before .pre .allowed) (c .before .before .before .before .before .before .before .fits .value .fits) (c .before .before .before .before .before .before .if1 .left) (c .before .before .before .before .if2 .left) (c .if3 .left)
 
 pub whole32-spec : {M : Type 1} → statement M
-whole32-spec =
-    tie.close
-    (tie.spec
-    returns
-    returns-2
-    scaled32-requires
-    returns-3
-    nearest32-requires
-    to-word32-requires
-    back32-requires
-    returns-4
-    returns-5)
+whole32-spec = tie.close (tie.spec returns scaled32-requires returns-2 nearest32-requires to-word32-requires back32-requires returns-3 returns-4)

@@ -1,5 +1,5 @@
 use lib.Ieee.{binary64}
-use Rattle.decimal.proofs.Exceptions.{no-nan, by-large, by-zero, by-scaled, by-back, kept}
+use Rattle.decimal.proofs.Exceptions.{no-nan, by-large, by-scaled, by-back, kept}
 use borrow.Author.Needs.{needs}
 use Rattle.decimal.proofs.whole.whole64.Statement.{statement}
 use Rattle.decimal.proofs.whole.whole64.Tie as tie
@@ -10,54 +10,31 @@ use Rattle.decimal.proofs.signed.to_word64.Reads as to-word64-reads
 use Rattle.decimal.proofs.whole.nearest64.Reads as nearest64-reads
 use Rattle.decimal.proofs.whole.scaled64.Reads as scaled64-reads
 
--- src/whole.rt:102:9
 returns : tie.Need-returns
 returns c = by-large binary64 _ _ (c .if1 .taken)
 
--- src/whole.rt:105:9
-returns-2 : tie.Need-returns-2
-returns-2 c = by-zero binary64 _ _ (c .if2 .taken)
-
--- src/whole.rt:107:9
 scaled64-requires : tie.Need-scaled64-requires
-scaled64-requires c κs = (c .before .before .pre, no-nan binary64 _ (c .before .if1 .left))
+scaled64-requires c κs = (c .before .pre, no-nan binary64 _ (c .if1 .left))
 
--- src/whole.rt:109:9
-returns-3 : tie.Need-returns-3
-returns-3 c = by-scaled binary64 _ _ _ (c .before .scaled64 .ensures) (c .if3 .taken)
+returns-2 : tie.Need-returns-2
+returns-2 c = by-scaled binary64 _ _ _ (c .before .scaled64 .ensures) (c .if2 .taken)
 
--- src/whole.rt:111:9
 nearest64-requires : tie.Need-nearest64-requires
 nearest64-requires c κs = search needs
 
--- src/whole.rt:112:23
 to-word64-requires : tie.Need-to-word64-requires
 to-word64-requires c κs = search needs
 
--- src/whole.rt:112:9
 back64-requires : tie.Need-back64-requires
 back64-requires c κs = search needs
 
--- src/whole.rt:114:9
+returns-3 : tie.Need-returns-3
+returns-3 c =
+    by-back binary64 _ _ _ (c .before .before .before .before .before .scaled64 .ensures) _ (record { sfits = c .before .before .before .nearest64 .ok }) (c .before .before .before .nearest64 .ensures) _ _ (c .before .before .to-word64 .ensures) (c .before .back64 .ensures) (c .if3 .taken)
+
 returns-4 : tie.Need-returns-4
 returns-4 c =
-    by-back binary64 _ _ _ (c .before .before .before .before .before .scaled64 .ensures) (c .before .before .before .before .before .before .before .before .fits .value .fits) (c .before .before .before .before .before .before .before .if1 .left) (c .before .before .before .before .before .before .if2 .left) (c .before .before .before .before .if3 .left) _ (record { sfits = c .before .before .before .nearest64 .ok }) (c .before .before .before .nearest64 .ensures) _ _ (c .before .before .to-word64 .ensures) (c .before .back64 .ensures) (c .if4 .taken)
-
--- src/whole.rt:97:1
-returns-5 : tie.Need-returns-5
-returns-5 c =
-    kept binary64 _ _ _ (c .before .before .before .before .before .scaled64 .ensures) (c .before .before .before .before .before .before .before .before .fits .value .fits) (c .before .before .before .before .before .before .before .if1 .left) (c .before .before .before .before .before .before .if2 .left) (c .before .before .before .before .if3 .left) _ (record { sfits = c .before .before .before .nearest64 .ok }) (c .before .before .before .nearest64 .ensures) _ _ (c .before .before .to-word64 .ensures) (c .before .back64 .ensures) (c .if4 .left)
+    kept binary64 _ _ _ (c .before .before .before .before .before .scaled64 .ensures) _ (record { sfits = c .before .before .before .nearest64 .ok }) (c .before .before .before .nearest64 .ensures) _ _ (c .before .before .to-word64 .ensures) (c .before .back64 .ensures) (c .before .before .before .before .before .before .before .pre .allowed) (c .before .before .before .before .before .before .before .fits .value .fits) (c .before .before .before .before .before .before .if1 .left) (c .before .before .before .before .if2 .left) (c .if3 .left)
 
 pub whole64-spec : {M : Type 1} → statement M
-whole64-spec =
-    tie.close
-    (tie.spec
-    returns
-    returns-2
-    scaled64-requires
-    returns-3
-    nearest64-requires
-    to-word64-requires
-    back64-requires
-    returns-4
-    returns-5)
+whole64-spec = tie.close (tie.spec returns scaled64-requires returns-2 nearest64-requires to-word64-requires back64-requires returns-3 returns-4)
