@@ -3,11 +3,11 @@
 use mathlib.Core.Path.{_≡_, refl, sym, ap, _∙_, subst}
 use mathlib.Core.Bool.{not}
 use Prim.Native.Nat.{ℕ, suc, _+_, _-_, _*_, _/_, _%_, _^_, _≤_, _<_, compare, Ordering, Ordering·lt, Ordering·eq, Ordering·gt}
-use native.Mathlib.Nat.{le-of-lt, lt-irrefl, lt-of-lt-of-le, zero-lt-suc, mul-one, mul-assoc, mul-right-comm, div-one, mod-one, div-eq-of-lt, mod-eq-of-lt, pow-succ'}
+use native.Mathlib.Nat.{one-mul, le-of-lt, lt-irrefl, lt-of-lt-of-le, zero-lt-suc, mul-one, mul-assoc, mul-right-comm, div-one, mod-one, div-eq-of-lt, mod-eq-of-lt, pow-succ'}
 use native.Mathlib.Omega.{arith}
-use lib.Dec.{T, isLe, isEq, eqb, le→leb, eqb→eq, eqb-refl}
+use lib.Dec.{lit<, T, isLe, isEq, eqb, le→leb, eqb→eq, eqb-refl}
 use lib.Arith.{lt→nleb}
-use lib.Pow.{pow-add, pow-pos, pow-mono}
+use lib.Pow.{shl-exact, pow-add, pow-pos, pow-mono}
 use lib.Ieee.{nearest}
 use lib.Ieee.Nearest.{closest, closest-same}
 
@@ -90,3 +90,34 @@ shift-out d x z h k =
     let l : x ≤ z = omega arith in
     let p : d * 2 < 2 ^ 64 = omega arith in
     sym (closest-zero d (2 ^ (z - x)) (lt-of-lt-of-le p (pow-mono k))) ∙ shift-down d x z l
+
+-- ---- as the code shifts: the divisor is `1 << s` in 64 bits
+
+abbrev pub one-shl : ℕ → ℕ
+one-shl s = 1 * 2 ^ s % 2 ^ 64
+
+unit-is : (s : ℕ) → s < 64 → one-shl s ≡ 2 ^ s
+unit-is s h = shl-exact {a = 1} 1 s 64 (lit< tt) (omega arith) ∙ one-mul (2 ^ s)
+
+pub unit-pos : (s : ℕ) → s < 64 → 0 < one-shl s
+unit-pos s h = subst (λ (y : ℕ). 0 < y) (sym (unit-is s h)) (pow-pos s)
+
+-- the three answers, by the remainder against half of the divisor
+module _ (d x z : ℕ) (X : x < z) (S : z - x < 64) where
+  abbrev u : ℕ
+  u = one-shl (z - x)
+
+  to : closest d u ≡ closest (d * 2 ^ x) (2 ^ z)
+  to = ap (closest d) (unit-is (z - x) S) ∙ shift-down d x z (omega arith)
+
+  s-pos : 0 < z - x
+  s-pos = omega arith
+
+  pub less : d % u < u / 2 → d / u ≡ closest (d * 2 ^ x) (2 ^ z)
+  less h = below-half d (z - x) u (unit-is (z - x) S) s-pos h ∙ to
+
+  pub more : u / 2 < d % u → d / u + 1 ≡ closest (d * 2 ^ x) (2 ^ z)
+  more h = above-half d (z - x) u (unit-is (z - x) S) s-pos h ∙ to
+
+  pub even : u / 2 ≤ d % u → d % u ≤ u / 2 → d / u + d / u % 2 ≡ closest (d * 2 ^ x) (2 ^ z)
+  even h k = at-half d (z - x) u (unit-is (z - x) S) s-pos h k ∙ to

@@ -10,7 +10,7 @@ use borrow.Author.Tests.{lt-ltb, le-ltb}
 use lib.Dec.{T, ltb, lit<, lit≤, ltb→lt, nltb→le}
 use lib.Pow.{shl-lt, pow-mono, pow-add}
 use lib.IntN.{ℤ, pos, negsuc}
-use lib.Ieee.{Float, fin, Format, binary32, binary64, prec, emax, low, up, down, round, sum, add, mul, ofInt, unlike}
+use lib.Ieee.{Float, fin, Format, binary32, binary64, prec, emax, low, up, down, round, sum, add, mul, ofInt}
 use lib.Ieee.Fits.{down-pos}
 use lib.Ieee.Exact.{HasValue, round-exact}
 use lib.Ieee.Back.{round-whole}

@@ -94,24 +94,26 @@ Real x = T (not (isNan x))
 real : (x y : Float) → x ≡ y → isNan y ≡ false → Real x
 real x y e h = subst (λ (b : Bool). T (not b)) (sym (ap isNan e ∙ h)) tt
 
+-- what the code computes, r, by the two products of its callee
 module _ {fmt : Format} {p : Pair} {a b c d : Float} (s : Scales fmt p a b c d) where
-  scaled-same : (x : Float) → mul fmt (mul fmt x a) b ≡ scaled fmt p x
-  unfolding scaled
-  scaled-same x = two-products fmt refl (s .up-exponent) (s .down-factor)
+  module _ (v : ℕ) {r : Float} (q : r ≡ mul fmt (mul fmt (ofBits fmt v) a) b) where
+    scaled-same : r ≡ scaled fmt p (ofBits fmt v)
+    unfolding scaled
+    scaled-same = q ∙ two-products fmt refl (s .up-exponent) (s .down-factor)
 
-  pub scaled-is : (v : ℕ) → toBits fmt (mul fmt (mul fmt (ofBits fmt v) a) b) ≡ toBits fmt (scaled fmt p (ofBits fmt v))
-  scaled-is v = ap (toBits fmt) (scaled-same (ofBits fmt v))
+    pub scaled-is : toBits fmt r ≡ toBits fmt (scaled fmt p (ofBits fmt v))
+    scaled-is = ap (toBits fmt) scaled-same
 
-  pub scaled-real : (v : ℕ) → nanBits fmt v ≡ false → Real (mul fmt (mul fmt (ofBits fmt v) a) b)
-  scaled-real v h = real (mul fmt (mul fmt (ofBits fmt v) a) b) (scaled fmt p (ofBits fmt v)) (scaled-same (ofBits fmt v)) (scaled-bits-no-nan fmt p (s .allowed) v h)
+    pub scaled-real : nanBits fmt v ≡ false → Real r
+    scaled-real h = real r (scaled fmt p (ofBits fmt v)) scaled-same (scaled-bits-no-nan fmt p (s .allowed) v h)
 
-  module _ (z : ℤ) {x : Float} (e : x ≡ ofInt fmt z) where
-    back-same : mul fmt (mul fmt x c) d ≡ broughtBack fmt p z
-    back-same = two-products fmt e (s .up-factor) (s .down-exponent)
+  module _ (z : ℤ) {x r : Float} (e : x ≡ ofInt fmt z) (q : r ≡ mul fmt (mul fmt x c) d) where
+    back-same : r ≡ broughtBack fmt p z
+    back-same = q ∙ two-products fmt e (s .up-factor) (s .down-exponent)
 
-    pub back-is : toBits fmt (mul fmt (mul fmt x c) d) ≡ back fmt p z
+    pub back-is : toBits fmt r ≡ back fmt p z
     unfolding back
     back-is = ap (toBits fmt) back-same
 
-    pub back-real : Real (mul fmt (mul fmt x c) d)
-    back-real = real (mul fmt (mul fmt x c) d) (broughtBack fmt p z) back-same (back-no-nan fmt p (s .allowed) z)
+    pub back-real : Real r
+    back-real = real r (broughtBack fmt p z) back-same (back-no-nan fmt p (s .allowed) z)

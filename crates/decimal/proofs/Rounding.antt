@@ -182,5 +182,5 @@ near fmt b n h e =
       fits = record { sfits = l };
       minus = minus-fits (word fmt) n l;
       plus = (λ k. toZ-pos (word fmt) n l ∙ ap pos e ∙ ap (λ (s : Bool). signed s c) (sym (lt-leb (top fmt) b k)) ∙ sym (whole-bits fmt b h));
-      less = (λ k. minus-back (word fmt) n l ∙ ap (λ (y : ℕ). negℤ (pos y)) e ∙ ap (λ (s : Bool). signed s c) (sym (le-leb (top fmt) b k)) ∙ sym (whole-bits fmt b h))
+      less = (λ k. minus-back (word fmt) n l ∙ ap (λ (y : ℕ). negℤ (pos y)) e ∙ ap (λ (s : Bool). signed s c) (sym (le-leb (top fmt) b k)) ∙ sym (whole-bits fmt b h));
     }

@@ -1,7 +1,10 @@
 // A whole number back to the bits of a value: the nearest float, times 10^f, then times 10^-e. Whole numbers come as words.
-use crate::signed::{of_word16, of_word32};
-use crate::tables::{Scale32, Scale64};
-
+use crate::signed::of_word16;
+use crate::signed::of_word32;
+use crate::tables::Scale32;
+use crate::tables::Scale64;
+use crate::tables::two_products32;
+use crate::tables::two_products64;
 ghost use mathlib.Core.Path.{_≡_};
 ghost use mathlib.Core.List.{map};
 ghost use Prim.Native.Nat.{_+_, _%_, _^_};
@@ -35,25 +38,25 @@ pub fn back64(word: u64, scale: Scale64) -> u64
     requires { ⌜ Scales64 scale ⌝ }
     ensures { λ r. ⌜ r ≡ back binary64 (pair64 scale) (toZ w64 word) ⌝ }
 {
-    f64::to_bits(nearest_float64(word) * scale.up_f * scale.down_e)
+    f64::to_bits(two_products64(nearest_float64(word), scale.up_f, scale.down_e))
 }
 
 pub fn back32(word: u32, scale: Scale32) -> u32
     requires { ⌜ Scales32 scale ⌝ }
     ensures { λ r. ⌜ r ≡ back binary32 (pair32 scale) (toZ w32 word) ⌝ }
 {
-    f32::to_bits(nearest_float32(word) * scale.up_f * scale.down_e)
+    f32::to_bits(two_products32(nearest_float32(word), scale.up_f, scale.down_e))
 }
 
 // The reading rule at one place: frame plus field, modulo 2^W, read as signed and brought back.
-pub fn read64(frame: u64, field: u64, scale: Scale64) -> u64
+pub fn value_of64(frame: u64, field: u64, scale: Scale64) -> u64
     requires { ⌜ Scales64 scale ⌝ }
     ensures { λ r. ⌜ r ≡ turned binary64 (pair64 scale) frame field ⌝ }
 {
     back64(std::num::wrapping_add_u64(frame, field), scale)
 }
 
-pub fn read32(frame: u32, field: u32, scale: Scale32) -> u32
+pub fn value_of32(frame: u32, field: u32, scale: Scale32) -> u32
     requires { ⌜ Scales32 scale ⌝ }
     ensures { λ r. ⌜ r ≡ turned binary32 (pair32 scale) frame field ⌝ }
 {
@@ -67,7 +70,7 @@ pub fn turn64(out: &mut [u64], frame: u64, scale: Scale64)
 {
     let mut i: usize = 0;
     while i < out.len() {
-        out[i] = read64(frame, out[i], scale);
+        out[i] = value_of64(frame, out[i], scale);
         i += 1;
     }
 }
@@ -78,7 +81,7 @@ pub fn turn32(out: &mut [u32], frame: u32, scale: Scale32)
 {
     let mut i: usize = 0;
     while i < out.len() {
-        out[i] = read32(frame, out[i], scale);
+        out[i] = value_of32(frame, out[i], scale);
         i += 1;
     }
 }

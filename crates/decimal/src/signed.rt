@@ -9,21 +9,13 @@ ghost use mir.Val.{toZ, ofZ};
 pub fn to_word64(z: i64) -> u64
     ensures { λ r. ⌜ r ≡ ofZ w64 z ⌝ }
 {
-    if z < 0 {
-        !((!z) as u64)
-    } else {
-        z as u64
-    }
+    if z < 0 { !((!z) as u64) } else { z as u64 }
 }
 
 pub fn to_word32(z: i32) -> u32
     ensures { λ r. ⌜ r ≡ ofZ w32 z ⌝ }
 {
-    if z < 0 {
-        !((!z) as u32)
-    } else {
-        z as u32
-    }
+    if z < 0 { !((!z) as u32) } else { z as u32 }
 }
 
 // A word read as signed.
@@ -50,11 +42,7 @@ pub fn of_word32(n: u32) -> i32
 pub fn of_word16(n: u16) -> i16
     ensures { λ r. ⌜ r ≡ toZ w16 n ⌝ }
 {
-    if n < 0x8000 {
-        n as i16
-    } else {
-        !((!n) as i16)
-    }
+    if n < 0x8000 { n as i16 } else { !((!n) as i16) }
 }
 
 // A whole number minus the frame. The signed difference may not fit, so it is that of the words.

@@ -1,8 +1,12 @@
 // The bits of a value to its whole number, or "exception".
-use crate::back::{back32, back64};
-use crate::signed::{to_word32, to_word64};
-use crate::tables::{Scale32, Scale64};
-
+use crate::back::back32;
+use crate::back::back64;
+use crate::signed::to_word32;
+use crate::signed::to_word64;
+use crate::tables::Scale32;
+use crate::tables::Scale64;
+use crate::tables::two_products32;
+use crate::tables::two_products64;
 ghost use mathlib.Core.Path.{_≡_};
 ghost use mathlib.Core.Bool.{false};
 ghost use Prim.Native.Nat.{_≤_, _<_, _+_, _*_, _/_, _%_, _^_};
@@ -22,19 +26,19 @@ pub enum Turned32 {
     Exception,
 }
 
-// The bits of the scaled value: two multiplications, each rounded once. No NaN goes in, so none comes out.
+// The bits of the scaled value. No NaN goes in, so none comes out.
 fn scaled64(value: u64, scale: Scale64) -> u64
     requires { ⌜ Scales64 scale × (nanBits binary64 value ≡ false) ⌝ }
     ensures { λ r. ⌜ r ≡ toBits binary64 (scaled binary64 (pair64 scale) (ofBits binary64 value)) ⌝ }
 {
-    f64::to_bits(f64::from_bits(value) * scale.up_e * scale.down_f)
+    f64::to_bits(two_products64(f64::from_bits(value), scale.up_e, scale.down_f))
 }
 
 fn scaled32(value: u32, scale: Scale32) -> u32
     requires { ⌜ Scales32 scale × (nanBits binary32 value ≡ false) ⌝ }
     ensures { λ r. ⌜ r ≡ toBits binary32 (scaled binary32 (pair32 scale) (ofBits binary32 value)) ⌝ }
 {
-    f32::to_bits(f32::from_bits(value) * scale.up_e * scale.down_f)
+    f32::to_bits(two_products32(f32::from_bits(value), scale.up_e, scale.down_f))
 }
 
 // digits * 2^exponent / 2^bias, rounded to the nearest whole number, a tie to the even one.
@@ -63,7 +67,8 @@ fn shifted(digits: u64, exponent: u64, bias: u64) -> u64
 }
 
 // The whole number nearest to the value with these bits, by their exponent's field and digits: the digits without the leading one are
-// the lowest 52 of 64 bits, or 23 of 32. The requirement says that the magnitude is at most L.
+// the lowest 52 of 64 bits, or 23 of 32. A field of 0 means that there is no leading one; such a value is near 0 with or without it. The
+// requirement says that the magnitude is at most L.
 fn nearest64(bits: u64) -> i64
     requires { ⌜ bits % 2 ^ 63 / 2 ^ 52 < 1086 ⌝ }
     ensures { λ r. ⌜ r ≡ whole (ofBits binary64 bits) ⌝ }
@@ -106,8 +111,7 @@ pub fn whole64(value: u64, scale: Scale64) -> Turned64
         return Turned64::Exception;
     }
     let number = nearest64(bits);
-    let came = back64(to_word64(number), scale);
-    if came != value {
+    if back64(to_word64(number), scale) != value {
         return Turned64::Exception;
     }
     Turned64::Whole(number)
@@ -125,8 +129,7 @@ pub fn whole32(value: u32, scale: Scale32) -> Turned32
         return Turned32::Exception;
     }
     let number = nearest32(bits);
-    let came = back32(to_word32(number), scale);
-    if came != value {
+    if back32(to_word32(number), scale) != value {
         return Turned32::Exception;
     }
     Turned32::Whole(number)

@@ -1,3 +1,4 @@
+-- `nearest_float32` meets its contract: the halves make the nearest float. Assumes nothing.
 use mathlib.Core.Path.{_≡_, refl}
 use lib.Ieee.{binary32, ofBits}
 use Rattle.decimal.proofs.Halves.{unit, halves-nearest}
@@ -13,27 +14,21 @@ literal : ofBits binary32 1199570944 ≡ unit binary32
 unfolding ofBits
 literal = refl
 
--- src/back.rt:28:26
 cast-of-word16 : tie.Need-cast-of-word16
 cast-of-word16 c = search needs
 
--- src/back.rt:28:9
 of-word16-requires : tie.Need-of-word16-requires
 of-word16-requires c κs = search needs
 
--- src/back.rt:29:15
 cast-low : tie.Need-cast-low
 cast-low c = search needs
 
--- src/back.rt:30:6
 int-to-float-result : tie.Need-int-to-float-result
 int-to-float-result c = search needs
 
--- src/back.rt:30:32
 int-to-float-result-2 : tie.Need-int-to-float-result-2
 int-to-float-result-2 c = search needs
 
--- src/back.rt:25:1
 returns : tie.Need-returns
 returns c = halves-nearest binary32 _ _ _ (c .before .before .before .fits .word .fits) (record { sfits = c .before .before .of-word16 .ok }) (c .before .before .of-word16 .ensures) literal
 

@@ -1,3 +1,4 @@
+-- `nearest_float64` meets its contract: the halves make the nearest float. Assumes nothing.
 use mathlib.Core.Path.{_≡_, refl}
 use lib.Ieee.{binary64, ofBits}
 use Rattle.decimal.proofs.Halves.{unit, halves-nearest}
@@ -13,27 +14,21 @@ literal : ofBits binary64 4751297606875873280 ≡ unit binary64
 unfolding ofBits
 literal = refl
 
--- src/back.rt:20:26
 cast-of-word32 : tie.Need-cast-of-word32
 cast-of-word32 c = search needs
 
--- src/back.rt:20:9
 of-word32-requires : tie.Need-of-word32-requires
 of-word32-requires c κs = search needs
 
--- src/back.rt:21:15
 cast-low : tie.Need-cast-low
 cast-low c = search needs
 
--- src/back.rt:22:6
 int-to-float-result : tie.Need-int-to-float-result
 int-to-float-result c = search needs
 
--- src/back.rt:22:37
 int-to-float-result-2 : tie.Need-int-to-float-result-2
 int-to-float-result-2 c = search needs
 
--- src/back.rt:17:1
 returns : tie.Need-returns
 returns c = halves-nearest binary64 _ _ _ (c .before .before .before .fits .word .fits) (record { sfits = c .before .before .of-word32 .ok }) (c .before .before .of-word32 .ensures) literal
 

@@ -1,3 +1,4 @@
+-- `turn64` meets its contract: the fields before i are turned, those from i on are as they came. Assumes nothing.
 use borrow.Author.Needs.{needs}
 use mathlib.Core.Path.{_≡_, sym, _∙_}
 use Prim.Native.Nat.{_-_, _≤_}
@@ -12,7 +13,7 @@ use Rattle.decimal.proofs.back.turn64.Statement.{statement}
 use Rattle.decimal.proofs.back.turn64.Tie as tie
 use Rattle.decimal.proofs.back.turn64.Reads as reads
 use Rattle.decimal.proofs.back.turn64.Lts as lts
-use Rattle.decimal.proofs.back.read64.Reads as read64-reads
+use Rattle.decimal.proofs.back.value_of64.Reads as value-of64-reads
 
 abbrev Inv-loop : tie.InvT-loop
 Inv-loop out₀ frame scale i₀ out i =
@@ -22,50 +23,39 @@ Inv-loop out₀ frame scale i₀ out i =
 abbrev μ-loop : tie.MeasureT-loop
 μ-loop out₀ frame scale i₀ out i = length out₀ - i
 
--- src/back.rt:69:5
 loop-holds : tie.Need-loop-holds Inv-loop μ-loop
 loop-holds c = search needs
 
--- src/back.rt:70:32
-mul-read64 : tie.Need-mul-read64 Inv-loop μ-loop
-mul-read64 c = search needs
+mul-value-of64 : tie.Need-mul-value-of64 Inv-loop μ-loop
+mul-value-of64 c = search needs
 
--- src/back.rt:70:32
-slice-read-read64 : tie.Need-slice-read-read64 Inv-loop μ-loop
-slice-read-read64 c = search needs
+slice-read-value-of64 : tie.Need-slice-read-value-of64 Inv-loop μ-loop
+slice-read-value-of64 c = search needs
 
--- src/back.rt:70:18
-read64-requires : tie.Need-read64-requires Inv-loop μ-loop
-read64-requires c κs = search needs
+value-of64-requires : tie.Need-value-of64-requires Inv-loop μ-loop
+value-of64-requires c κs = search needs
 
--- src/back.rt:70:9
 mul-out : tie.Need-mul-out Inv-loop μ-loop
 mul-out c = search needs
 
--- src/back.rt:70:9
 slice-write-out : tie.Need-slice-write-out Inv-loop μ-loop
 slice-write-out c = search needs
 
--- src/back.rt:71:9
 add-i : tie.Need-add-i Inv-loop μ-loop
 add-i c = search needs
 
--- src/back.rt:69:5
 loop-less : tie.Need-loop-less Inv-loop μ-loop
 loop-less c = search needs
 
--- src/back.rt:69:5
 loop-again : tie.Need-loop-again Inv-loop μ-loop
 loop-again c =
     let a = c .before .before .before .before .before .args in
     let l = c .before .before .before .loop in
-    (simp length-set (omega arith), simp length-set (l .inv .1), l .inv .2 ∙ map-next (turned binary64 (pair64 (a .scale)) (a .frame)) (l .out) (l .i) (c .read64 .result) (omega arith) (c .read64 .ensures))
+    (simp length-set (omega arith), simp length-set (l .inv .1), l .inv .2 ∙ map-next (turned binary64 (pair64 (a .scale)) (a .frame)) (l .out) (l .i) (c .value-of64 .result) (omega arith) (c .value-of64 .ensures))
 
--- src/back.rt:64:1
 same-length : tie.Need-same-length Inv-loop μ-loop
 same-length c = c .before .loop .inv .1
 
--- src/back.rt:64:1
 returns : tie.Need-returns Inv-loop μ-loop
 returns c =
     let a = c .before .before .before .args in
@@ -79,9 +69,9 @@ turn64-spec =
     Inv-loop
     μ-loop
     loop-holds
-    mul-read64
-    slice-read-read64
-    read64-requires
+    mul-value-of64
+    slice-read-value-of64
+    value-of64-requires
     mul-out
     slice-write-out
     add-i

@@ -1,3 +1,4 @@
+-- `field32` meets its contract: the difference of the words counts how far the whole number is above the frame. Assumes nothing.
 use mir.Syntax.{w32}
 use Rattle.decimal.proofs.Words.{field-is}
 use borrow.Author.Needs.{needs}
@@ -8,19 +9,15 @@ use Rattle.decimal.proofs.signed.field32.Lts as lts
 use Rattle.decimal.proofs.signed.to_word32.Reads as to-word32-reads
 use Rattle.std.proofs.num.wrapping_sub_u32.Reads as wrapping-sub-u32-reads
 
--- src/signed.rt:72:32
 to-word32-requires : tie.Need-to-word32-requires
 to-word32-requires c κs = search needs
 
--- src/signed.rt:72:46
 to-word32-requires-2 : tie.Need-to-word32-requires-2
 to-word32-requires-2 c κs = search needs
 
--- src/signed.rt:72:5
 wrapping-sub-u32-requires : tie.Need-wrapping-sub-u32-requires
 wrapping-sub-u32-requires c κs = search needs
 
--- src/signed.rt:68:1
 returns : tie.Need-returns
 returns c =
     let a = c .before .before .before .args in

@@ -1,3 +1,4 @@
+-- `field64` meets its contract: the difference of the words counts how far the whole number is above the frame. Assumes nothing.
 use mir.Syntax.{w64}
 use Rattle.decimal.proofs.Words.{field-is}
 use borrow.Author.Needs.{needs}
@@ -8,19 +9,15 @@ use Rattle.decimal.proofs.signed.field64.Lts as lts
 use Rattle.decimal.proofs.signed.to_word64.Reads as to-word64-reads
 use Rattle.std.proofs.num.wrapping_sub_u64.Reads as wrapping-sub-u64-reads
 
--- src/signed.rt:65:32
 to-word64-requires : tie.Need-to-word64-requires
 to-word64-requires c κs = search needs
 
--- src/signed.rt:65:46
 to-word64-requires-2 : tie.Need-to-word64-requires-2
 to-word64-requires-2 c κs = search needs
 
--- src/signed.rt:65:5
 wrapping-sub-u64-requires : tie.Need-wrapping-sub-u64-requires
 wrapping-sub-u64-requires c κs = search needs
 
--- src/signed.rt:61:1
 returns : tie.Need-returns
 returns c =
     let a = c .before .before .before .args in

@@ -1,3 +1,4 @@
+-- `of_word16` meets its contract: the complement's complement is the word. Assumes nothing.
 use mathlib.Core.Path.{ap}
 use mir.Syntax.{w16}
 use mir.Val.{toZ}
@@ -8,19 +9,15 @@ use Rattle.decimal.proofs.signed.of_word16.Tie as tie
 use Rattle.decimal.proofs.signed.of_word16.Reads as reads
 use Rattle.decimal.proofs.signed.of_word16.Lts as lts
 
--- src/signed.rt:54:9
 cast-result : tie.Need-cast-result
 cast-result c = search needs
 
--- src/signed.rt:56:11
 cast-result-2 : tie.Need-cast-result-2
 cast-result-2 c = search needs
 
--- src/signed.rt:50:1
 returns : tie.Need-returns
 returns c = search needs
 
--- src/signed.rt:50:1
 returns-2 : tie.Need-returns-2
 returns-2 c = ap (toZ w16) (twice-not w16 (c .before .args .n) (c .before .fits .n .fits))
 

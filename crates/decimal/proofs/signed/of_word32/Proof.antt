@@ -1,3 +1,4 @@
+-- `of_word32` meets its contract: the complement's complement is the word. Assumes nothing.
 use mathlib.Core.Path.{ap}
 use mir.Syntax.{w32}
 use mir.Val.{toZ}
@@ -8,19 +9,15 @@ use Rattle.decimal.proofs.signed.of_word32.Tie as tie
 use Rattle.decimal.proofs.signed.of_word32.Reads as reads
 use Rattle.decimal.proofs.signed.of_word32.Lts as lts
 
--- src/signed.rt:44:9
 cast-result : tie.Need-cast-result
 cast-result c = search needs
 
--- src/signed.rt:46:11
 cast-result-2 : tie.Need-cast-result-2
 cast-result-2 c = search needs
 
--- src/signed.rt:40:1
 returns : tie.Need-returns
 returns c = search needs
 
--- src/signed.rt:40:1
 returns-2 : tie.Need-returns-2
 returns-2 c = ap (toZ w32) (twice-not w32 (c .before .args .n) (c .before .fits .n .fits))
 

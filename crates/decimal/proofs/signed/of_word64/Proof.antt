@@ -1,3 +1,4 @@
+-- `of_word64` meets its contract: the complement's complement is the word. Assumes nothing.
 use mathlib.Core.Path.{ap}
 use mir.Syntax.{w64}
 use mir.Val.{toZ}
@@ -8,19 +9,15 @@ use Rattle.decimal.proofs.signed.of_word64.Tie as tie
 use Rattle.decimal.proofs.signed.of_word64.Reads as reads
 use Rattle.decimal.proofs.signed.of_word64.Lts as lts
 
--- src/signed.rt:34:9
 cast-result : tie.Need-cast-result
 cast-result c = search needs
 
--- src/signed.rt:36:11
 cast-result-2 : tie.Need-cast-result-2
 cast-result-2 c = search needs
 
--- src/signed.rt:30:1
 returns : tie.Need-returns
 returns c = search needs
 
--- src/signed.rt:30:1
 returns-2 : tie.Need-returns-2
 returns-2 c = ap (toZ w64) (twice-not w64 (c .before .args .n) (c .before .fits .n .fits))
 

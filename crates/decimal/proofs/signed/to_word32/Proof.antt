@@ -1,3 +1,4 @@
+-- `to_word32` meets its contract: a number below 0 is the complement of its complement, which can be cast. Assumes nothing.
 use mathlib.Core.Path.{refl}
 use mir.Syntax.{w32}
 use mir.ValLaws.{ofZ-fits, half-full}
@@ -7,22 +8,18 @@ use Rattle.decimal.proofs.signed.to_word32.Tie as tie
 use Rattle.decimal.proofs.signed.to_word32.Reads as reads
 use Rattle.decimal.proofs.signed.to_word32.Lts as lts
 
--- src/signed.rt:23:11
 cast-result : tie.Need-cast-result
 cast-result c =
     rw (below-zero w32 (c .before .args .z) (c .before .fits .z) (c .if1 .taken) .0) (tt, record { fits = half-full w32 (c .before .fits .z .sfits) })
 
--- src/signed.rt:25:9
 cast-result-2 : tie.Need-cast-result-2
 cast-result-2 c =
     rw (from-zero w32 (c .before .args .z) (c .before .fits .z) (c .if1 .left)) (tt, ofZ-fits w32 (c .before .args .z) (c .before .fits .z))
 
--- src/signed.rt:19:1
 returns : tie.Need-returns
 returns c =
     rw (below-zero w32 (c .before .args .z) (c .before .fits .z) (c .if1 .taken) .0) (below-zero w32 (c .before .args .z) (c .before .fits .z) (c .if1 .taken) .1)
 
--- src/signed.rt:19:1
 returns-2 : tie.Need-returns-2
 returns-2 c = rw (from-zero w32 (c .before .args .z) (c .before .fits .z) (c .if1 .left)) refl
 

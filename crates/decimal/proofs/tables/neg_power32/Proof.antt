@@ -1,3 +1,4 @@
+-- `neg_power32` meets its contract: the entry at k is the power, by the test of the whole table. Assumes nothing.
 use lib.Ieee.{binary32}
 use Rattle.decimal.proofs.Powers.{negPower-at}
 use borrow.Author.Needs.{needs}
@@ -6,15 +7,12 @@ use Rattle.decimal.proofs.tables.neg_power32.Tie as tie
 use Rattle.decimal.proofs.tables.neg_power32.Reads as reads
 use Rattle.decimal.proofs.tables.neg_power32.Lts as lts
 
--- src/tables.rt:79:5
 mul-result : tie.Need-mul-result
 mul-result c = search needs
 
--- src/tables.rt:79:5
 array-read-result : tie.Need-array-read-result
 array-read-result c = search needs
 
--- src/tables.rt:75:1
 returns : tie.Need-returns
 returns c = negPower-at binary32 (c .args .k) (c .pre)
 

@@ -1,3 +1,4 @@
+-- `power32` meets its contract: the entry at k is the power, by the test of the whole table. Assumes nothing.
 use lib.Ieee.{binary32}
 use Rattle.decimal.proofs.Powers.{power-at}
 use borrow.Author.Needs.{needs}
@@ -6,15 +7,12 @@ use Rattle.decimal.proofs.tables.power32.Tie as tie
 use Rattle.decimal.proofs.tables.power32.Reads as reads
 use Rattle.decimal.proofs.tables.power32.Lts as lts
 
--- src/tables.rt:72:5
 mul-result : tie.Need-mul-result
 mul-result c = search needs
 
--- src/tables.rt:72:5
 array-read-result : tie.Need-array-read-result
 array-read-result c = search needs
 
--- src/tables.rt:68:1
 returns : tie.Need-returns
 returns c = power-at binary32 (c .args .k) (c .pre)
 

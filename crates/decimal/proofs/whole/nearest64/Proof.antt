@@ -1,3 +1,4 @@
+-- `nearest64` meets its contract: the digits, shifted by the exponent's field, are the magnitude. Assumes nothing.
 use lib.Ieee.{binary64}
 use Rattle.decimal.proofs.Rounding.{Near, near}
 use borrow.Author.Needs.{needs}
@@ -10,31 +11,24 @@ use Rattle.decimal.proofs.whole.shifted.Reads as shifted-reads
 is : (c : tie.After-shifted) → Near binary64 (c .before .args .bits) (c .shifted .result)
 is c = near binary64 (c .before .args .bits) (c .shifted .result) (c .before .pre) (c .shifted .ensures)
 
--- src/whole.rt:72:18
 add-digits : tie.Need-add-digits
 add-digits c = search needs
 
--- src/whole.rt:73:9
 shifted-requires : tie.Need-shifted-requires
 shifted-requires c κs = search needs
 
--- src/whole.rt:75:9
 cast-result : tie.Need-cast-result
 cast-result c = is (c .before) .fits
 
--- src/whole.rt:77:14
 cast-result-2 : tie.Need-cast-result-2
 cast-result-2 c = is (c .before) .fits
 
--- src/whole.rt:77:9
 sub-result : tie.Need-sub-result
 sub-result c = is (c .before) .minus
 
--- src/whole.rt:67:1
 returns : tie.Need-returns
 returns c = is (c .before) .plus (c .if1 .taken)
 
--- src/whole.rt:67:1
 returns-2 : tie.Need-returns-2
 returns-2 c = is (c .before) .less (c .if1 .left)
 

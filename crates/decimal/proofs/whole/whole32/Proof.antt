@@ -1,3 +1,5 @@
+-- `whole32` meets its contract: each test is one of the exception rule, and what passes them all is the whole number. Assumes nothing.
+use native.Mathlib.Omega.{arith}
 use lib.Ieee.{binary32}
 use Rattle.decimal.proofs.Exceptions.{no-nan, by-large, by-scaled, by-back, kept}
 use borrow.Author.Needs.{needs}
@@ -17,7 +19,7 @@ scaled32-requires : tie.Need-scaled32-requires
 scaled32-requires c κs = (c .before .pre, no-nan binary32 _ (c .if1 .left))
 
 returns-2 : tie.Need-returns-2
-returns-2 c = by-scaled binary32 _ _ _ (c .before .scaled32 .ensures) (c .if2 .taken)
+returns-2 c = by-scaled binary32 _ _ _ (c .before .scaled32 .ensures) (omega (arith, c .if2 .taken))
 
 nearest32-requires : tie.Need-nearest32-requires
 nearest32-requires c κs = search needs

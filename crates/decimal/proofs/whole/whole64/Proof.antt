@@ -1,3 +1,5 @@
+-- `whole64` meets its contract: each test is one of the exception rule, and what passes them all is the whole number. Assumes nothing.
+use native.Mathlib.Omega.{arith}
 use lib.Ieee.{binary64}
 use Rattle.decimal.proofs.Exceptions.{no-nan, by-large, by-scaled, by-back, kept}
 use borrow.Author.Needs.{needs}
@@ -17,7 +19,7 @@ scaled64-requires : tie.Need-scaled64-requires
 scaled64-requires c κs = (c .before .pre, no-nan binary64 _ (c .if1 .left))
 
 returns-2 : tie.Need-returns-2
-returns-2 c = by-scaled binary64 _ _ _ (c .before .scaled64 .ensures) (c .if2 .taken)
+returns-2 c = by-scaled binary64 _ _ _ (c .before .scaled64 .ensures) (omega (arith, c .if2 .taken))
 
 nearest64-requires : tie.Need-nearest64-requires
 nearest64-requires c κs = search needs
