@@ -1,0 +1,12 @@
+-- `two_products32` meets its contract: each multiplication is the format's, in this order. Assumes nothing.
+use mathlib.Core.Path.{refl}
+use Rattle.decimal.proofs.tables.two_products32.Statement.{statement}
+use Rattle.decimal.proofs.tables.two_products32.Tie as tie
+use Rattle.decimal.proofs.tables.two_products32.Reads as reads
+use Rattle.decimal.proofs.tables.two_products32.Lts as lts
+
+returns : tie.Need-returns
+returns c = refl
+
+pub two-products32-spec : {M : Type 1} → statement M
+two-products32-spec = tie.close (tie.spec returns)
