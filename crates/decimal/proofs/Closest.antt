@@ -53,20 +53,20 @@ twice s h = ap (λ (x : ℕ). 2 ^ x) (back s h) ∙ pow-succ' 2 (s - 1)
     back : (s : ℕ) → 0 < s → s ≡ suc (s - 1)
     back s h = omega arith
 
-pub below-half : (d s u : ℕ) → u ≡ 2 ^ s → 0 < s → d % u < u / 2 → d / u ≡ closest d u
+below-half : (d s u : ℕ) → u ≡ 2 ^ s → 0 < s → d % u < u / 2 → d / u ≡ closest d u
 below-half d s u e p h =
     let g : u ≡ 2 * 2 ^ (s - 1) = e ∙ twice s p in
     let l : d % u * 2 < u = omega arith in
     sym (ap (nearest (d / u)) (cmp-lt (d % u * 2) u l))
 
-pub above-half : (d s u : ℕ) → u ≡ 2 ^ s → 0 < s → u / 2 < d % u → d / u + 1 ≡ closest d u
+above-half : (d s u : ℕ) → u ≡ 2 ^ s → 0 < s → u / 2 < d % u → d / u + 1 ≡ closest d u
 above-half d s u e p h =
     let g : u ≡ 2 * 2 ^ (s - 1) = e ∙ twice s p in
     let l : u < d % u * 2 = omega arith in
     let o : d / u + 1 ≡ suc (d / u) = omega arith in
     o ∙ sym (ap (nearest (d / u)) (cmp-gt (d % u * 2) u l))
 
-pub at-half : (d s u : ℕ) → u ≡ 2 ^ s → 0 < s → u / 2 ≤ d % u → d % u ≤ u / 2 → d / u + d / u % 2 ≡ closest d u
+at-half : (d s u : ℕ) → u ≡ 2 ^ s → 0 < s → u / 2 ≤ d % u → d % u ≤ u / 2 → d / u + d / u % 2 ≡ closest d u
 at-half d s u e p h k =
     let g : u ≡ 2 * 2 ^ (s - 1) = e ∙ twice s p in
     let l : d % u * 2 ≡ u = omega arith in
@@ -80,7 +80,7 @@ pub shift-up : (d x z : ℕ) → z ≤ x → d * 2 ^ (x - z) ≡ closest (d * 2 
 shift-up d x z h =
     sym (closest-same (d * 2 ^ x) (2 ^ z) (d * 2 ^ (x - z)) 1 (pow-pos z) (zero-lt-suc 0) (mul-one (d * 2 ^ x) ∙ sym (rejoin d x z h)) ∙ closest-whole (d * 2 ^ (x - z)))
 
-pub shift-down : (d x z : ℕ) → x ≤ z → closest d (2 ^ (z - x)) ≡ closest (d * 2 ^ x) (2 ^ z)
+shift-down : (d x z : ℕ) → x ≤ z → closest d (2 ^ (z - x)) ≡ closest (d * 2 ^ x) (2 ^ z)
 shift-down d x z h =
     closest-same d (2 ^ (z - x)) (d * 2 ^ x) (2 ^ z) (pow-pos (z - x)) (pow-pos z)
     (sym (rejoin d z x h) ∙ mul-right-comm d (2 ^ (z - x)) (2 ^ x))

@@ -3,7 +3,7 @@
 use mathlib.Core.Path.{_≡_, refl, sym, ap, ap₂, subst, _∙_}
 use mathlib.Core.Logic.{_⊎_, inl, inr}
 use Prim.Native.Nat.{ℕ, suc, _+_, _-_, _*_, _/_, _%_, _^_, _≤_, _<_}
-use native.Mathlib.Nat.{mul-one, mul-assoc, mul-comm, add-mul, mul-pos, mul-lt-mul-of-pos-right, mul-sub, lt-of-lt-of-le}
+use native.Mathlib.Nat.{le-of-lt, mul-one, mul-assoc, mul-comm, add-mul, mul-pos, mul-lt-mul-of-pos-right, mul-sub, lt-of-lt-of-le}
 use native.Mathlib.Omega.{arith}
 use mathlib.Core.Bool.{Bool, true, false, not, _&&_, cond, true≢false, false≢true}
 use borrow.Author.Tests.{lt-ltb, le-ltb}
@@ -116,26 +116,26 @@ low-small : (fmt : Format) (s : ℕ) → lower fmt s ≤ 2 ^ prec fmt
 low-small binary32 s = omega arith
 low-small binary64 s = omega arith
 
+-- of a word whose upper half is not negative: the halves join to it
 record Positive (fmt : Format) (s : ℕ) : Type 0 where
   pub small : upper fmt s < 2 ^ prec fmt
-  pub small≤ : upper fmt s ≤ 2 ^ prec fmt
   pub joined : upper fmt s * 2 ^ places fmt + lower fmt s ≡ s
   pub inside : s < 2 ^ hbits (word fmt)
 
 positive : (fmt : Format) (s : ℕ) → upper fmt s < 2 ^ hbits (half fmt) → Positive fmt s
-positive binary32 s h = record { small = omega arith; small≤ = omega arith; joined = omega arith; inside = omega arith }
-positive binary64 s h = record { small = omega arith; small≤ = omega arith; joined = omega arith; inside = omega arith }
+positive binary32 s h = record { small = omega arith; joined = omega arith; inside = omega arith }
+positive binary64 s h = record { small = omega arith; joined = omega arith; inside = omega arith }
 
+-- of one whose upper half is negative: the lower half takes off what the upper half's depth overshoots
 record Negative (fmt : Format) (s : ℕ) : Type 0 where
   pub small : suc (depth fmt s) < 2 ^ prec fmt
-  pub small≤ : suc (depth fmt s) ≤ 2 ^ prec fmt
   pub under : lower fmt s < suc (depth fmt s) * 2 ^ places fmt
   pub joined : suc (depth fmt s) * 2 ^ places fmt - lower fmt s ≡ suc (2 ^ wordBits fmt - suc s)
   pub above : 2 ^ hbits (word fmt) ≤ s
 
 negative : (fmt : Format) (s : ℕ) → s < 2 ^ wordBits fmt → 2 ^ hbits (half fmt) ≤ upper fmt s → Negative fmt s
-negative binary32 s l h = record { small = omega arith; small≤ = omega arith; under = omega arith; joined = omega arith; above = omega arith }
-negative binary64 s l h = record { small = omega arith; small≤ = omega arith; under = omega arith; joined = omega arith; above = omega arith }
+negative binary32 s l h = record { small = omega arith; under = omega arith; joined = omega arith; above = omega arith }
+negative binary64 s l h = record { small = omega arith; under = omega arith; joined = omega arith; above = omega arith }
 
 -- ---- the float of the word
 
@@ -151,7 +151,7 @@ at-pos : (fmt : Format) (s : ℕ) → Positive fmt s → made fmt (pos (upper fm
 unfolding ofInt
 at-pos fmt s n =
     add-up fmt (mul fmt (round fmt false (upper fmt s) 1) (unit fmt)) (round fmt false (lower fmt s) 1) (upper fmt s * 2 ^ places fmt) (lower fmt s)
-    (mul-unit fmt (round fmt false (upper fmt s) 1) false (upper fmt s) (n .small) (round-whole fmt false (upper fmt s) (n .small≤))) (low-value fmt s)
+    (mul-unit fmt (round fmt false (upper fmt s) 1) false (upper fmt s) (n .small) (round-whole fmt false (upper fmt s) (le-of-lt (n .small)))) (low-value fmt s)
     ∙ ap (λ (y : ℕ). round fmt false y 1) (n .joined)
 
 at-neg : (fmt : Format) (s : ℕ) → Negative fmt s → made fmt (negsuc (depth fmt s)) (lower fmt s) ≡ ofInt fmt (negsuc (2 ^ wordBits fmt - suc s))
@@ -159,7 +159,7 @@ unfolding ofInt
 at-neg fmt s n =
     let k = suc (depth fmt s) in
     add-down fmt (mul fmt (round fmt true k 1) (unit fmt)) (round fmt false (lower fmt s) 1) (k * 2 ^ places fmt) (lower fmt s) (n .under)
-    (mul-unit fmt (round fmt true k 1) true k (n .small) (round-whole fmt true k (n .small≤))) (low-value fmt s)
+    (mul-unit fmt (round fmt true k 1) true k (n .small) (round-whole fmt true k (le-of-lt (n .small)))) (low-value fmt s)
     ∙ ap (λ (y : ℕ). round fmt true y 1) (n .joined)
 
 toZ-high : (w : Width) (n : ℕ) → 2 ^ hbits w ≤ n → toZ w n ≡ negsuc (2 ^ bits w - suc n)

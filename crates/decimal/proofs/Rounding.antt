@@ -33,7 +33,7 @@ cross l d m c a D C e = (
   (λ h. le-ltb (l * d) m (le-of-mul-le-mul-right (subst (λ (x : ℕ). x ≤ l * d * c) (sym e) (subst (λ (x : ℕ). a * d ≤ x) (mul-right-comm l c d) (mul-le-mul-right d h))) C)),
 )
 
-pub beyond-val : (fmt : Format) (v : Float) (s : Bool) (a c : ℕ) → 0 < c → HasValue v s a c → (maxScaled fmt * c < a → beyond fmt v ≡ true) × (a ≤ maxScaled fmt * c → beyond fmt v ≡ false)
+beyond-val : (fmt : Format) (v : Float) (s : Bool) (a c : ℕ) → 0 < c → HasValue v s a c → (maxScaled fmt * c < a → beyond fmt v ≡ true) × (a ≤ maxScaled fmt * c → beyond fmt v ≡ false)
 unfolding beyond
 beyond-val fmt nan s a c C h = absurd h
 beyond-val fmt (inf t) s a c C h = absurd h
@@ -86,7 +86,7 @@ within : (fmt : Format) (x : ℕ) → x < cap fmt → x < ones fmt
 within binary32 x h = omega arith
 within binary64 x h = omega arith
 
-pub whole-fields : (fmt : Format) (s : Bool) (x t : ℕ) → x < ones fmt → t < hid fmt → whole (ofFields fmt s x t) ≡ signed s (closest ((hid fmt + t) * 2 ^ x) (2 ^ suc (low fmt)))
+whole-fields : (fmt : Format) (s : Bool) (x t : ℕ) → x < ones fmt → t < hid fmt → whole (ofFields fmt s x t) ≡ signed s (closest ((hid fmt + t) * 2 ^ x) (2 ^ suc (low fmt)))
 whole-fields fmt s zero t X H =
     near-val (ofFields fmt s 0 t) s (t * 2 ^ 0) (2 ^ low fmt) (pow-pos (low fmt)) (small-val fmt s t)
     ∙ ap (signed s) (closest-zero (t * 2 ^ 0) (2 ^ low fmt) (room fmt t H .0) ∙ sym (closest-zero ((hid fmt + t) * 2 ^ 0) (2 ^ suc (low fmt)) (room fmt t H .1)))
@@ -111,7 +111,7 @@ over-limit fmt x t X = lt-of-lt-of-le (past fmt) (mul-le-mul (more (hid fmt) t) 
     more : (a b : ℕ) → a ≤ a + b
     more a b = omega arith
 
-pub in-range : (fmt : Format) (x t : ℕ) → x < cap fmt → t < hid fmt → closest ((hid fmt + t) * 2 ^ x) (2 ^ suc (low fmt)) ≤ maxScaled fmt
+in-range : (fmt : Format) (x t : ℕ) → x < cap fmt → t < hid fmt → closest ((hid fmt + t) * 2 ^ x) (2 ^ suc (low fmt)) ≤ maxScaled fmt
 in-range fmt zero t X H = subst (λ (y : ℕ). y ≤ maxScaled fmt) (sym (closest-zero ((hid fmt + t) * 2 ^ 0) (2 ^ suc (low fmt)) (room fmt t H .1))) zero-le
 in-range fmt (suc x) t X H =
     let e : closest ((hid fmt + t) * 2 ^ x) (2 ^ low fmt) ≡ closest ((hid fmt + t) * 2 ^ suc x) (2 ^ suc (low fmt)) =
@@ -122,7 +122,7 @@ in-range fmt (suc x) t X H =
     (subst (λ (y : ℕ). y ≤ maxScaled fmt * 2 ^ low fmt) (sym (mul-one ((hid fmt + t) * 2 ^ x))) (under-limit fmt x t X H))))
 
 -- ---- of the bits
-pub whole-bits : (fmt : Format) (b : ℕ) → b % top fmt / hid fmt < cap fmt → whole (ofBits fmt b) ≡ signed (leb (top fmt) b) (closest ((hid fmt + b % hid fmt) * 2 ^ (b % top fmt / hid fmt)) (2 ^ suc (low fmt)))
+whole-bits : (fmt : Format) (b : ℕ) → b % top fmt / hid fmt < cap fmt → whole (ofBits fmt b) ≡ signed (leb (top fmt) b) (closest ((hid fmt + b % hid fmt) * 2 ^ (b % top fmt / hid fmt)) (2 ^ suc (low fmt)))
 unfolding ofBits
 whole-bits fmt b h = whole-fields fmt (leb (top fmt) b) (b % top fmt / hid fmt) (b % hid fmt) (within fmt (b % top fmt / hid fmt) h) (mod-lt b (pow-pos (prec fmt - 1)))
 
