@@ -7,7 +7,6 @@ use crate::tables::two_products32;
 use crate::tables::two_products64;
 ghost use mathlib.Core.Path.{_≡_};
 ghost use mathlib.Core.List.{map};
-ghost use Prim.Native.Nat.{_+_, _%_, _^_};
 ghost use lib.Ieee.{binary32, binary64, ofInt};
 ghost use mir.Syntax.{w32, w64};
 ghost use mir.Val.{toZ};

@@ -1,4 +1,4 @@
--- `back32` meets its contract: the two products with the pair's powers are the way back, and no NaN. Assumes nothing.
+-- `back::back32` meets its contract: the two products with the pair's powers are the way back, and no NaN. Assumes nothing.
 use Rattle.decimal.proofs.Powers.{back-is, back-real}
 use borrow.Author.Needs.{needs}
 use Rattle.decimal.proofs.back.back32.Statement.{statement}

@@ -1,4 +1,4 @@
--- `nearest_float64` meets its contract: the halves make the nearest float. Assumes nothing.
+-- `back::nearest_float64` meets its contract: the halves make the nearest float. Assumes nothing.
 use mathlib.Core.Path.{_≡_, refl}
 use lib.Ieee.{binary64, ofBits}
 use Rattle.decimal.proofs.Halves.{unit, halves-nearest}

@@ -1,4 +1,4 @@
--- `turn32` meets its contract: the fields before i are turned, those from i on are as they came. Assumes nothing.
+-- `back::turn32` meets its contract: the fields before i are turned, those from i on are as they came. Assumes nothing.
 use borrow.Author.Needs.{needs}
 use mathlib.Core.Path.{_≡_, sym, _∙_}
 use Prim.Native.Nat.{_-_, _≤_}

@@ -1,4 +1,4 @@
--- `value_of64` meets its contract: the sum of frame and field, modulo 2^W, is brought back. Assumes nothing.
+-- `back::value_of64` meets its contract: the sum of frame and field, modulo 2^W, is brought back. Assumes nothing.
 use mathlib.Core.Path.{ap, _∙_}
 use Prim.Native.Nat.{ℕ}
 use Rattle.decimal.specs.Scale.{pair64}

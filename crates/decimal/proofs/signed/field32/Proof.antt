@@ -1,4 +1,4 @@
--- `field32` meets its contract: the difference of the words counts how far the whole number is above the frame. Assumes nothing.
+-- `signed::field32` meets its contract: the difference of the words counts how far the whole number is above the frame. Assumes nothing.
 use mir.Syntax.{w32}
 use Rattle.decimal.proofs.Words.{field-is}
 use borrow.Author.Needs.{needs}

@@ -1,4 +1,4 @@
--- `of_word32` meets its contract: the complement's complement is the word. Assumes nothing.
+-- `signed::of_word32` meets its contract: the complement's complement is the word. Assumes nothing.
 use mathlib.Core.Path.{ap}
 use mir.Syntax.{w32}
 use mir.Val.{toZ}

@@ -1,4 +1,4 @@
--- `to_word32` meets its contract: a number below 0 is the complement of its complement, which can be cast. Assumes nothing.
+-- `signed::to_word32` meets its contract: a number below 0 is the complement of its complement, which can be cast. Assumes nothing.
 use mathlib.Core.Path.{refl}
 use mir.Syntax.{w32}
 use mir.ValLaws.{ofZ-fits, half-full}

@@ -1,4 +1,4 @@
--- `to_word64` meets its contract: a number below 0 is the complement of its complement, which can be cast. Assumes nothing.
+-- `signed::to_word64` meets its contract: a number below 0 is the complement of its complement, which can be cast. Assumes nothing.
 use mathlib.Core.Path.{refl}
 use mir.Syntax.{w64}
 use mir.ValLaws.{ofZ-fits, half-full}

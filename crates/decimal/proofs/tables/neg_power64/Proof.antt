@@ -1,4 +1,4 @@
--- `neg_power64` meets its contract: the entry at k is the power, by the test of the whole table. Assumes nothing.
+-- `tables::neg_power64` meets its contract: the entry at k is the power, by the test of the whole table. Assumes nothing.
 use lib.Ieee.{binary64}
 use Rattle.decimal.proofs.Powers.{negPower-at}
 use borrow.Author.Needs.{needs}

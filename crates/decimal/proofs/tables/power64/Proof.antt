@@ -1,4 +1,4 @@
--- `power64` meets its contract: the entry at k is the power, by the test of the whole table. Assumes nothing.
+-- `tables::power64` meets its contract: the entry at k is the power, by the test of the whole table. Assumes nothing.
 use lib.Ieee.{binary64}
 use Rattle.decimal.proofs.Powers.{power-at}
 use borrow.Author.Needs.{needs}

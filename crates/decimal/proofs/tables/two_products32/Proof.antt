@@ -1,4 +1,4 @@
--- `two_products32` meets its contract: each multiplication is the format's, in this order. Assumes nothing.
+-- `tables::two_products32` meets its contract: each multiplication is the format's, in this order. Assumes nothing.
 use mathlib.Core.Path.{refl}
 use Rattle.decimal.proofs.tables.two_products32.Statement.{statement}
 use Rattle.decimal.proofs.tables.two_products32.Tie as tie

@@ -1,4 +1,4 @@
--- `nearest32` meets its contract: the digits, shifted by the exponent's field, are the magnitude. Assumes nothing.
+-- `whole::nearest32` meets its contract: the digits, shifted by the exponent's field, are the magnitude. Assumes nothing.
 use lib.Ieee.{binary32}
 use Rattle.decimal.proofs.Rounding.{Near, near}
 use borrow.Author.Needs.{needs}

@@ -1,4 +1,4 @@
--- `scaled64` meets its contract: the two products with the pair's powers are the scaled value, and no NaN. Assumes nothing.
+-- `whole::scaled64` meets its contract: the two products with the pair's powers are the scaled value, and no NaN. Assumes nothing.
 use mathlib.Core.Path.{sym, subst}
 use mathlib.Core.Bool.{Bool, not}
 use lib.Dec.{T}

@@ -1,4 +1,4 @@
--- `shifted` meets its contract: the quotient is moved up by one as the remainder says. Assumes nothing.
+-- `whole::shifted` meets its contract: the quotient is moved up by one as the remainder says. Assumes nothing.
 use mathlib.Core.Path.{_∙_}
 use Prim.Native.Nat.{_-_, _/_, _^_, _<_}
 use native.Mathlib.Nat.{div-le-self, lt-of-le-of-lt}

@@ -1,4 +1,4 @@
--- `whole32` meets its contract: each test is one of the exception rule, and what passes them all is the whole number. Assumes nothing.
+-- `whole::whole32` meets its contract: each test is one of the exception rule, and what passes them all is the whole number. Assumes nothing.
 use native.Mathlib.Omega.{arith}
 use lib.Ieee.{binary32}
 use Rattle.decimal.proofs.Exceptions.{no-nan, by-large, by-scaled, by-back, kept}
