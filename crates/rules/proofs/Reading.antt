@@ -72,19 +72,18 @@ module _ (fmt : Format) (v : ℕ) (r : Raw) (rest : List ℕ) (f : Fit fmt r) (s
   unfolding listRows
   list-passes = rw (front-raw fmt r rest f) (positions-pass v (r .count) (record { index = 0; low = 0 }) (r .positions) (s .rising))
 
--- what it shows that a vector's rows pass: the one door from "fine" to facts, a field a row
-pub record Passed (fmt : Format) (n : ℕ) (m : Meta) (bs : List ℕ) : Type 0 where
+-- what it shows that a vector's rows pass: the one door from "fine" to facts, a field a row. First the rows before 13
+pub record MetaPassed (fmt : Format) (n : ℕ) (m : Meta) (bs : List ℕ) : Type 0 where
   pub room : metaBytes fmt ≤ length bs
   pub exponent : m .pair .exponent ≤ maxExponent fmt
   pub factor : m .pair .factor ≤ m .pair .exponent
   pub few : m .listed ≤ n
   pub narrow : m .width ≤ wordBits fmt
   pub whole : vectorSize fmt n m ≤ length bs
-  pub rising : Rising n 0 (rawFrom fmt n m (drop (metaBytes fmt) bs) .positions)
 
-pub passed : (fmt : Format) (v n : ℕ) (m : Meta) (bs : List ℕ) → verdict (metaRows fmt v n m bs) ≡ fine → verdict (listRows fmt v n m bs) ≡ fine → Passed fmt n m bs
-unfolding metaRows listRows
-passed fmt v n m bs ok listed =
+pub meta-fine : (fmt : Format) (v n : ℕ) (m : Meta) (bs : List ℕ) → verdict (metaRows fmt v n m bs) ≡ fine → MetaPassed fmt n m bs
+unfolding metaRows
+meta-fine fmt v n m bs ok =
     let a7 = row-first 7 (in-vector v) (length bs below metaBytes fmt) _ ok in
     let a9 = row-first 9 (in-vector v) (m .pair .exponent above maxExponent fmt) _ (a7 .1) in
     let a10 = row-first 10 (in-vector v) (m .pair .factor above m .pair .exponent) _ (a9 .1) in
@@ -97,6 +96,28 @@ passed fmt v n m bs ok listed =
       few = ltb-false n (m .listed) (a11 .0);
       narrow = ltb-false (wordBits fmt) (m .width) (a12 .0);
       whole = ltb-false (length bs) (vectorSize fmt n m) (row-fine 7 (in-vector v) (length bs below vectorSize fmt n m) (a12 .1));
+    }
+
+pub record Passed (fmt : Format) (n : ℕ) (m : Meta) (bs : List ℕ) : Type 0 where
+  pub room : metaBytes fmt ≤ length bs
+  pub exponent : m .pair .exponent ≤ maxExponent fmt
+  pub factor : m .pair .factor ≤ m .pair .exponent
+  pub few : m .listed ≤ n
+  pub narrow : m .width ≤ wordBits fmt
+  pub whole : vectorSize fmt n m ≤ length bs
+  pub rising : Rising n 0 (rawFrom fmt n m (drop (metaBytes fmt) bs) .positions)
+
+pub passed : (fmt : Format) (v n : ℕ) (m : Meta) (bs : List ℕ) → verdict (metaRows fmt v n m bs) ≡ fine → verdict (listRows fmt v n m bs) ≡ fine → Passed fmt n m bs
+unfolding listRows
+passed fmt v n m bs ok listed =
+    let p = meta-fine fmt v n m bs ok in
+    record {
+      room = p .room;
+      exponent = p .exponent;
+      factor = p .factor;
+      few = p .few;
+      narrow = p .narrow;
+      whole = p .whole;
       rising = positions-fine v n (record { index = 0; low = 0 }) (rawFrom fmt n m (drop (metaBytes fmt) bs) .positions) listed;
     }
 
@@ -126,8 +147,8 @@ vectors-pass fmt size c (r ∷ rs) k f s =
 
 -- ---- the page
 
--- what rows 1 to 7 show
-pub record Head (bs : List ℕ) : Type 0 where
+-- what rows 1 to 6 show
+pub record Header (bs : List ℕ) : Type 0 where
   pub eight : 8 ≤ length bs
   pub version : versionOf bs ≡ 1
   pub mode : modeOf bs ≡ 0
@@ -135,11 +156,10 @@ pub record Head (bs : List ℕ) : Type 0 where
   pub low : minS ≤ sOf bs
   pub high : sOf bs ≤ maxS
   pub many : countOf bs ≤ maxValues
-  pub offsets : 8 + 4 * vectorsOf bs ≤ length bs
 
-pub head-fine : (bs : List ℕ) → verdict (headRows bs) ≡ fine → verdict (offsetsRow bs) ≡ fine → Head bs
-unfolding headRows offsetsRow
-head-fine bs ok o =
+pub header-fine : (bs : List ℕ) → verdict (headRows bs) ≡ fine → Header bs
+unfolding headRows
+header-fine bs ok =
     let s : ℕ = sOf bs in
     let a1 = row-first 1 the-page (length bs below 8) _ ok in
     let a2 = row-first 2 the-page (versionOf bs isnt 1) _ (a1 .1) in
@@ -155,8 +175,27 @@ head-fine bs ok o =
       low = ltb-false s minS (t5 .0);
       high = ltb-false maxS s (t5 .1);
       many = ltb-false maxValues (countOf bs) (row-fine 6 the-page (countOf bs above maxValues) (a5 .1));
-      offsets = ltb-false (length bs) (8 + 4 * vectorsOf bs) (row-fine 7 the-page (length bs below 8 + 4 * vectorsOf bs) o);
     }
+
+pub offsets-fine : (bs : List ℕ) → verdict (offsetsRow bs) ≡ fine → 8 + 4 * vectorsOf bs ≤ length bs
+unfolding offsetsRow
+offsets-fine bs ok = ltb-false (length bs) (8 + 4 * vectorsOf bs) (row-fine 7 the-page (length bs below 8 + 4 * vectorsOf bs) ok)
+
+-- what rows 1 to 7 show
+pub record Head (bs : List ℕ) : Type 0 where
+  pub eight : 8 ≤ length bs
+  pub version : versionOf bs ≡ 1
+  pub mode : modeOf bs ≡ 0
+  pub encoding : encodingOf bs ≡ 0
+  pub low : minS ≤ sOf bs
+  pub high : sOf bs ≤ maxS
+  pub many : countOf bs ≤ maxValues
+  pub offsets : 8 + 4 * vectorsOf bs ≤ length bs
+
+pub head-fine : (bs : List ℕ) → verdict (headRows bs) ≡ fine → verdict (offsetsRow bs) ≡ fine → Head bs
+head-fine bs ok o =
+    let h = header-fine bs ok in
+    record { eight = h .eight; version = h .version; mode = h .mode; encoding = h .encoding; low = h .low; high = h .high; many = h .many; offsets = offsets-fine bs o }
 
 -- a page that was laid out passes
 module _ (fmt : Format) (s n : ℕ) (rs : List Raw) (low : minS ≤ s) (high : s ≤ maxS) (many : n ≤ maxValues) (v : vectors s n ≡ length rs)

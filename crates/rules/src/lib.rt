@@ -7,3 +7,7 @@ pub struct Answer {
     pub vector: u64,
     pub place: u64,
 }
+
+// A vector's exponent and its factor, each a type of its own, so that the two can't be swapped.
+pub struct Exponent(pub u8);
+pub struct Factor(pub u8);

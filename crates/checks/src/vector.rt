@@ -1,0 +1,161 @@
+// One vector at the front of a part of a page: its metadata, and rows 8, 7 for metadata, 9 to 12, 7 for data, 13.
+use bits::numbers::{read_u16, read_u32, read_u64};
+use rules::{Exponent, Factor};
+use crate::check::{refuses, Check};
+use crate::kind::{largest_exponent, largest_width, meta_bytes, value_bytes, Kind};
+use crate::sizes::{least, packed_size, vector_size, wide};
+ghost use mathlib.Core.Path.{_≡_};
+ghost use Prim.Native.Nat.{_+_, _*_, _^_, _≤_, _<_};
+ghost use lib.ListN.{length, take, drop};
+ghost use Rattle.digits.specs.Digits.{number, numbers};
+ghost use Rattle.rules.specs.Kind.{maxS, metaBytes, wordBytes, wordBits};
+ghost use Rattle.rules.specs.Page.{vectorSize, metaAt};
+ghost use Rattle.rules.specs.Verdict.{verdict};
+ghost use Rattle.rules.specs.Read.{metaRows, positionsRows, listRows, vectorRows};
+ghost use Rattle.checks.specs.Forms.{formatOf, asVerdict, asCursor, FoundMeta, pairRows, no-position};
+
+// A vector's metadata.
+pub struct Meta {
+    pub exponent: Exponent,
+    pub factor: Factor,
+    pub listed: usize,
+    pub frame: u64,
+    pub width: usize,
+}
+
+// How far the layout has come: the next vector's number, its offset, and how many values are left for it and those behind it.
+pub struct Cursor {
+    pub vector: usize,
+    pub offset: usize,
+    pub left: usize,
+}
+
+fn frame_at(part: &[u8], kind: Kind) -> u64
+    requires { ⌜ metaBytes (formatOf kind) ≤ length (now part) ⌝ }
+    ensures { λ r. ⌜ (r ≡ number (take (wordBytes (formatOf kind)) (drop 4 (now (part .entry))))) × (r < 2 ^ wordBits (formatOf kind)) ⌝ }
+{
+    match kind {
+        Kind::Single => read_u32(part, 4) as u64,
+        Kind::Double => read_u64(part, 4),
+    }
+}
+
+// The metadata at the front of the part.
+pub fn meta_at(part: &[u8], kind: Kind) -> Meta
+    requires { ⌜ metaBytes (formatOf kind) ≤ length (now part) ⌝ }
+    ensures { λ r. ⌜ FoundMeta (formatOf kind) (now (part .entry)) r ⌝ }
+{
+    let word = value_bytes(kind);
+    let frame = frame_at(part, kind);
+    let listed = read_u16(part, 2) as usize;
+    let width = wide(part[4 + word]);
+    Meta {
+        exponent: Exponent(part[0]),
+        factor: Factor(part[1]),
+        listed,
+        frame,
+        width,
+    }
+}
+
+// Rows 9 and 10.
+pub fn check_pair(kind: Kind, exponent: Exponent, factor: Factor, v: usize) -> Check
+    ensures { λ r. ⌜ asVerdict r ≡ verdict (pairRows (formatOf kind) v exponent factor) ⌝ }
+{
+    let e = exponent.0;
+    let f = factor.0;
+    let top = largest_exponent(kind);
+    if top < e {
+        return refuses(9, v, 0);
+    }
+    if e < f {
+        return refuses(10, v, 0);
+    }
+    Check::Fine
+}
+
+// Rows 7 for metadata, 9 to 12, 7 for data, of vector v, which has n values.
+pub fn check_meta(part: &[u8], kind: Kind, v: usize, n: usize) -> Check
+    requires { ⌜ n ≤ 2 ^ maxS ⌝ }
+    ensures { λ r. ⌜ asVerdict r ≡ verdict (metaRows (formatOf kind) v n (metaAt (formatOf kind) (now (part .entry))) (now (part .entry))) ⌝ }
+{
+    let front = meta_bytes(kind);
+    if part.len() < front {
+        return refuses(7, v, 0);
+    }
+    let m = meta_at(part, kind);
+    match check_pair(kind, m.exponent, m.factor, v) {
+        Check::No(answer) => {
+            return Check::No(answer);
+        }
+        Check::Fine => {}
+    }
+    let listed = m.listed;
+    if n < listed {
+        return refuses(11, v, 0);
+    }
+    let width = m.width;
+    let widest = largest_width(kind);
+    if widest < width {
+        return refuses(12, v, 0);
+    }
+    let size = vector_size(kind, n, width, listed);
+    if part.len() < size {
+        return refuses(7, v, 0);
+    }
+    Check::Fine
+}
+
+// Row 13 of the positions from byte `at` on.
+fn check_positions(part: &[u8], at: usize, listed: usize, v: usize, n: usize) -> Check
+    requires { ⌜ at + 2 * listed ≤ length (now part) ⌝ }
+    ensures { λ r. ⌜ asVerdict r ≡ verdict (positionsRows v n no-position (numbers 2 listed (drop at (now (part .entry))))) ⌝ }
+{
+    let mut low: usize = 0;
+    let mut i: usize = 0;
+    while i < listed {
+        let p = read_u16(part, at + 2 * i) as usize;
+        if n <= p {
+            return refuses(13, v, i);
+        }
+        if p < low {
+            return refuses(13, v, i);
+        }
+        low = p + 1;
+        i += 1;
+    }
+    Check::Fine
+}
+
+// Row 13 of vector v, whose bytes are all there.
+pub fn check_list(part: &[u8], kind: Kind, v: usize, n: usize) -> Check
+    requires { ⌜ (n ≤ 2 ^ maxS) × (vectorSize (formatOf kind) n (metaAt (formatOf kind) (now part)) ≤ length (now part)) ⌝ }
+    ensures { λ r. ⌜ asVerdict r ≡ verdict (listRows (formatOf kind) v n (metaAt (formatOf kind) (now (part .entry))) (now (part .entry))) ⌝ }
+{
+    let m = meta_at(part, kind);
+    let listed = m.listed;
+    let front = meta_bytes(kind);
+    let packed = packed_size(n, m.width);
+    check_positions(part, front + packed, listed, v, n)
+}
+
+// Rows 8, 7 for metadata, 9 to 12, 7 for data, 13 of the vector at the cursor, for which the page has this offset.
+pub fn check_vector(part: &[u8], kind: Kind, size: usize, cursor: Cursor, offset: usize) -> Check
+    requires { ⌜ size ≤ 2 ^ maxS ⌝ }
+    ensures { λ r. ⌜ asVerdict r ≡ verdict (vectorRows (formatOf kind) size (asCursor cursor) offset (metaAt (formatOf kind) (now (part .entry))) (now (part .entry))) ⌝ }
+{
+    let v = cursor.vector;
+    let expected = cursor.offset;
+    if offset != expected {
+        return refuses(8, v, 0);
+    }
+    let left = cursor.left;
+    let n = least(size, left);
+    match check_meta(part, kind, v, n) {
+        Check::No(answer) => {
+            return Check::No(answer);
+        }
+        Check::Fine => {}
+    }
+    check_list(part, kind, v, n)
+}
