@@ -35,6 +35,9 @@ module _ (r : Check) (x : Verdict) (e : asVerdict r ≡ x) where
   pub goes-on : (q : Check) (y : Verdict) → r ≡ Fine → asVerdict q ≡ y → asVerdict q ≡ first x y
   goes-on q y f g = g ∙ ap (λ (z : Verdict). first z y) (sym (check-fine r e f))
 
+  pub continues : (y z : Verdict) → r ≡ Fine → z ≡ first x y → z ≡ y
+  continues y z f h = h ∙ ap (λ (k : Verdict). first k y) (check-fine r e f)
+
 -- ---- rows 1 to 6, and 7 for the offsets
 
 module _ (bs : List ℕ) where
