@@ -11,7 +11,7 @@ use borrow.Author.Tests.{lt-ltb, le-ltb, eq-eqb, ne-eqb}
 use Rattle.rules.specs.Kind.{minS, maxS, maxValues, maxExponent, wordBits, metaBytes}
 use Rattle.rules.specs.Page.{versionOf, modeOf, encodingOf, sOf, countOf, vectorsOf, vectorSize, metaAt}
 use Rattle.rules.specs.Page as page
-use Rattle.rules.specs.Verdict.{Rows, row, _then_, Verdict, fine, refuse, first, verdict, the-page, in-vector, _above_, _below_}
+use Rattle.rules.specs.Verdict.{Rows, row, _then_, Verdict, fine, refuse, first, verdict, the-page, in-vector, _above_, _below_, _isnt_}
 use Rattle.rules.specs.Read.{headRows, offsetsRow, metaRows, listRows, Cursor, here, vectorRows}
 use Rattle.rules.specs.declared.Answer.{Answer}
 use Rattle.rules.specs.declared.Exponent.{Exponent}
@@ -138,11 +138,15 @@ module _ (fmt : Format) (v n : ℕ) (bs : List ℕ) where
 
 -- ---- 8, then the vector's other rows: n is its count of values
 
-module _ (fmt : Format) (size : ℕ) (c : Cursor) (o n : ℕ) (m : page.Meta) (bs : List ℕ) where
-  pub no8 : (o ≡ c .offset → ⊥) → refuse 8 (in-vector (c .vector)) ≡ verdict (vectorRows fmt size c o m bs)
-  unfolding vectorRows
-  no8 h = rw (ne-eqb o (c .offset) h)
+pub no8 : (v o laid : ℕ) → (o ≡ laid → ⊥) → refuse 8 (in-vector v) ≡ verdict (row 8 (in-vector v) (o isnt laid))
+no8 v o laid h = rw (ne-eqb o laid h)
 
-  pub from-meta : o ≡ c .offset → n ≡ here size c → verdict (vectorRows fmt size c o m bs) ≡ first (verdict (metaRows fmt (c .vector) n m bs)) (verdict (listRows fmt (c .vector) n m bs))
-  unfolding vectorRows
-  from-meta h e = rw (eq-eqb o (c .offset) h, ← e)
+pub offset-passes : (v o laid : ℕ) → o ≡ laid → fine ≡ verdict (row 8 (in-vector v) (o isnt laid))
+offset-passes v o laid h = rw (eq-eqb o laid h)
+
+pub vector-is : (fmt : Format) (size : ℕ) (c : Cursor) (o n : ℕ) (m : page.Meta) (bs : List ℕ) → n ≡ here size c
+    → first (first (verdict (row 8 (in-vector (c .vector)) (o isnt c .offset))) (verdict (metaRows fmt (c .vector) n m bs))) (verdict (listRows fmt (c .vector) n m bs)) ≡ verdict (vectorRows fmt size c o m bs)
+unfolding vectorRows
+vector-is fmt size c o n m bs e =
+    first-first (verdict (row 8 (in-vector (c .vector)) (o isnt c .offset))) (verdict (metaRows fmt (c .vector) n m bs)) (verdict (listRows fmt (c .vector) n m bs))
+    ∙ ap (λ (x : ℕ). first (verdict (row 8 (in-vector (c .vector)) (o isnt c .offset))) (first (verdict (metaRows fmt (c .vector) x m bs)) (verdict (listRows fmt (c .vector) x m bs)))) e

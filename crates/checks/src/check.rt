@@ -1,7 +1,7 @@
 // What a check gives: nothing to refuse, or the answer of the first row that refuses.
 use rules::Answer;
 ghost use mathlib.Core.Path.{_≡_};
-ghost use Rattle.rules.specs.Verdict.{refuse, in-vector-at};
+ghost use Rattle.rules.specs.Verdict.{refuse, first, in-vector-at};
 ghost use Rattle.checks.specs.Forms.{asVerdict};
 
 pub enum Check {
@@ -18,4 +18,14 @@ pub fn refuses(row: u64, vector: usize, place: usize) -> Check
         vector: vector as u64,
         place: place as u64,
     })
+}
+
+// The first of two checks that refuses.
+pub fn first_of(a: Check, b: Check) -> Check
+    ensures { λ r. ⌜ asVerdict r ≡ first (asVerdict a) (asVerdict b) ⌝ }
+{
+    match a {
+        Check::No(answer) => Check::No(answer),
+        Check::Fine => b,
+    }
 }

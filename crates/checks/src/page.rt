@@ -3,8 +3,8 @@ use bits::numbers::read_u32;
 use crate::check::{refuses, Check};
 use crate::head::{check_head, check_offsets, count_of, s_of, vectors_in};
 use crate::kind::Kind;
-use crate::sizes::{least, size_of, vector_size};
-use crate::vector::{check_vector, meta_at, Cursor};
+use crate::sizes::{size_of, vector_size};
+use crate::vector::{check_vector, meta_at, values_here, Cursor};
 ghost use mathlib.Core.Path.{_≡_};
 ghost use Prim.Native.Nat.{_+_, _*_, _^_, _≤_, _<_};
 ghost use lib.ListN.{length, take, drop};
@@ -42,7 +42,7 @@ pub fn check_vectors(page: &[u8], kind: Kind) -> Check
             Check::Fine => {}
         }
         let m = meta_at(part, kind);
-        let n = least(size, left);
+        let n = values_here(size, cursor);
         at += vector_size(kind, n, m.width, m.listed);
         left -= n;
         v += 1;

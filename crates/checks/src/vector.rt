@@ -1,7 +1,7 @@
 // One vector at the front of a part of a page: its metadata, and rows 8, 7 for metadata, 9 to 12, 7 for data, 13.
 use bits::numbers::{read_u16, read_u32, read_u64};
 use rules::{Exponent, Factor};
-use crate::check::{refuses, Check};
+use crate::check::{first_of, refuses, Check};
 use crate::kind::{largest_exponent, largest_width, meta_bytes, value_bytes, Kind};
 use crate::sizes::{least, packed_size, vector_size, wide};
 ghost use mathlib.Core.Path.{_≡_};
@@ -10,8 +10,8 @@ ghost use lib.ListN.{length, take, drop};
 ghost use Rattle.digits.specs.Digits.{number, numbers};
 ghost use Rattle.rules.specs.Kind.{maxS, metaBytes, wordBytes, wordBits};
 ghost use Rattle.rules.specs.Page.{vectorSize, metaAt};
-ghost use Rattle.rules.specs.Verdict.{verdict};
-ghost use Rattle.rules.specs.Read.{metaRows, positionsRows, listRows, vectorRows};
+ghost use Rattle.rules.specs.Verdict.{verdict, row, in-vector, _isnt_};
+ghost use Rattle.rules.specs.Read.{metaRows, positionsRows, listRows, here, vectorRows};
 ghost use Rattle.checks.specs.Forms.{formatOf, asVerdict, asCursor, FoundMeta, pairRows, no-position};
 
 // A vector's metadata.
@@ -59,7 +59,7 @@ pub fn meta_at(part: &[u8], kind: Kind) -> Meta
 }
 
 // Rows 9 and 10.
-pub fn check_pair(kind: Kind, exponent: Exponent, factor: Factor, v: usize) -> Check
+pub fn check_pair(kind: Kind, v: usize, exponent: Exponent, factor: Factor) -> Check
     ensures { λ r. ⌜ asVerdict r ≡ verdict (pairRows (formatOf kind) v exponent factor) ⌝ }
 {
     let e = exponent.0;
@@ -84,7 +84,7 @@ pub fn check_meta(part: &[u8], kind: Kind, v: usize, n: usize) -> Check
         return refuses(7, v, 0);
     }
     let m = meta_at(part, kind);
-    match check_pair(kind, m.exponent, m.factor, v) {
+    match check_pair(kind, v, m.exponent, m.factor) {
         Check::No(answer) => {
             return Check::No(answer);
         }
@@ -139,19 +139,35 @@ pub fn check_list(part: &[u8], kind: Kind, v: usize, n: usize) -> Check
     check_positions(part, front + packed, listed, v, n)
 }
 
+// Row 8: the offset that the page has for vector v, and the layout's.
+fn check_offset(v: usize, offset: usize, laid: usize) -> Check
+    ensures { λ r. ⌜ asVerdict r ≡ verdict (row 8 (in-vector v) (offset isnt laid)) ⌝ }
+{
+    if offset != laid {
+        return refuses(8, v, 0);
+    }
+    Check::Fine
+}
+
+// How many values the vector at the cursor holds: every vector is full but perhaps the last.
+pub fn values_here(size: usize, cursor: Cursor) -> usize
+    ensures { λ r. ⌜ r ≡ here size (asCursor cursor) ⌝ }
+{
+    let left = cursor.left;
+    least(size, left)
+}
+
 // Rows 8, 7 for metadata, 9 to 12, 7 for data, 13 of the vector at the cursor, for which the page has this offset.
 pub fn check_vector(part: &[u8], kind: Kind, size: usize, cursor: Cursor, offset: usize) -> Check
     requires { ⌜ size ≤ 2 ^ maxS ⌝ }
     ensures { λ r. ⌜ asVerdict r ≡ verdict (vectorRows (formatOf kind) size (asCursor cursor) offset (metaAt (formatOf kind) (now (part .entry))) (now (part .entry))) ⌝ }
 {
     let v = cursor.vector;
-    let expected = cursor.offset;
-    if offset != expected {
-        return refuses(8, v, 0);
-    }
-    let left = cursor.left;
-    let n = least(size, left);
-    match check_meta(part, kind, v, n) {
+    let laid = cursor.offset;
+    let n = values_here(size, cursor);
+    let placed = check_offset(v, offset, laid);
+    let described = check_meta(part, kind, v, n);
+    match first_of(placed, described) {
         Check::No(answer) => {
             return Check::No(answer);
         }

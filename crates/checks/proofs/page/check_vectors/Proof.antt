@@ -24,7 +24,7 @@ use Rattle.checks.proofs.check.refuses.Reads as refuses-reads
 use Rattle.checks.proofs.head.count_of.Reads as count-of-reads
 use Rattle.checks.proofs.head.s_of.Reads as s-of-reads
 use Rattle.checks.proofs.head.vectors_in.Reads as vectors-in-reads
-use Rattle.checks.proofs.sizes.least.Reads as least-reads
+use Rattle.checks.proofs.vector.values_here.Reads as values-here-reads
 use Rattle.checks.proofs.sizes.size_of.Reads as size-of-reads
 use Rattle.checks.proofs.sizes.vector_size.Reads as vector-size-reads
 use Rattle.checks.proofs.vector.check_vector.Reads as check-vector-reads
@@ -70,13 +70,13 @@ shown c f =
     (check-fine (c .check-vector .result) (c .check-vector .ensures) f) .1
 
 -- where its size is known: that size by the rules, and that it ends inside the page
-size-is : (c : tie.After-vector-size Inv-loop μ-loop) → c .vector-size .result ≡ vectorSize (fmt-at (c .before .before .before .before .before)) (c .before .least .result) (metaAt (fmt-at (c .before .before .before .before .before)) (part-at (c .before .before .before .before .before)))
-size-is c = c .vector-size .ensures ∙ ap (vectorSize (fmt-at (c .before .before .before .before .before)) (c .before .least .result)) (c .before .before .meta-at .ensures .meta-is)
+size-is : (c : tie.After-vector-size Inv-loop μ-loop) → c .vector-size .result ≡ vectorSize (fmt-at (c .before .before .before .before .before)) (c .before .values-here .result) (metaAt (fmt-at (c .before .before .before .before .before)) (part-at (c .before .before .before .before .before)))
+size-is c = c .vector-size .ensures ∙ ap (vectorSize (fmt-at (c .before .before .before .before .before)) (c .before .values-here .result)) (c .before .before .meta-at .ensures .meta-is)
 
 inside : (c : tie.After-vector-size Inv-loop μ-loop) → 8 + (c .before .before .before .before .before .before .before .before .before .loop .at + c .vector-size .result) ≤ length (page-at (c .before .before .before .before .before))
 inside c =
     let p = shown (c .before .before .before .before .before) (c .before .before .before .enum-told .given .1) .whole in
-    let n = ap (λ (x : ℕ). vectorSize (fmt-at (c .before .before .before .before .before)) x (metaAt (fmt-at (c .before .before .before .before .before)) (part-at (c .before .before .before .before .before)))) (c .before .least .ensures) in
+    let n = ap (λ (x : ℕ). vectorSize (fmt-at (c .before .before .before .before .before)) x (metaAt (fmt-at (c .before .before .before .before .before)) (part-at (c .before .before .before .before .before)))) (c .before .values-here .ensures) in
     let len = ap length (lent-is (8 + c .before .before .before .before .before .before .before .before .before .loop .at) (page-at (c .before .before .before .before .before))) ∙ length-drop (8 + c .before .before .before .before .before .before .before .before .before .loop .at) (page-at (c .before .before .before .before .before)) in
     omega (arith, p, n, len, size-is c)
 
@@ -162,8 +162,8 @@ meta-at-requires : tie.Need-meta-at-requires Inv-loop μ-loop
 meta-at-requires c κs = shown (c .before .before) (c .enum-told .given .1) .room
 
 -- src/page.rt:45:13
-least-requires : tie.Need-least-requires Inv-loop μ-loop
-least-requires c κs = search needs
+values-here-requires : tie.Need-values-here-requires Inv-loop μ-loop
+values-here-requires c κs = search needs
 
 -- src/page.rt:46:15
 vector-size-requires : tie.Need-vector-size-requires Inv-loop μ-loop
@@ -188,7 +188,7 @@ loop-less c = search needs
 -- src/page.rt:29:5
 loop-again : tie.Need-loop-again Inv-loop μ-loop
 loop-again c =
-    (omega arith, omega arith, inside c, continues (c .before .before .before .before .before .check-vector .result) _ (c .before .before .before .before .before .check-vector .ensures) _ _ (c .before .before .before .enum-told .given .1) (turn (c .before .before .before .before .before) (c .before .least .result) (c .vector-size .result) (c .before .least .ensures) (size-is c)))
+    (omega arith, omega arith, inside c, continues (c .before .before .before .before .before .check-vector .result) _ (c .before .before .before .before .before .check-vector .ensures) _ _ (c .before .before .before .enum-told .given .1) (turn (c .before .before .before .before .before) (c .before .values-here .result) (c .vector-size .result) (c .before .values-here .ensures) (size-is c)))
 
 -- src/page.rt:50:8
 add-if1 : tie.Need-add-if1 Inv-loop μ-loop
@@ -238,7 +238,7 @@ check-vectors-spec =
     returns
     enum-told
     meta-at-requires
-    least-requires
+    values-here-requires
     vector-size-requires
     add-at
     sub-left

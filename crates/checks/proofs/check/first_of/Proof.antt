@@ -1,0 +1,27 @@
+use mathlib.Core.Path.{refl}
+use Rattle.checks.specs.Forms.{asVerdict}
+use Rattle.checks.proofs.Refusals.{stops}
+use borrow.Author.Needs.{needs}
+use Rattle.checks.proofs.check.first_of.Statement.{statement}
+use Rattle.checks.proofs.check.first_of.Tie as tie
+use Rattle.checks.proofs.check.first_of.Reads as reads
+use Rattle.checks.proofs.check.first_of.Lts as lts
+
+-- src/check.rt:28:19
+enum-known-a : tie.Need-enum-known-a
+enum-known-a c = search needs
+
+-- src/check.rt:29:24
+enum-told : tie.Need-enum-told
+enum-told c = search needs
+
+-- src/check.rt:24:1
+returns : tie.Need-returns
+returns c = stops (c .before .before .before .args .a) _ refl _ (asVerdict (c .before .before .before .args .b)) (c .before .a .given .1)
+
+-- src/check.rt:24:1
+returns-2 : tie.Need-returns-2
+returns-2 c = search needs
+
+pub first-of-spec : {M : Type 1} → statement M
+first-of-spec = tie.close (tie.spec enum-known-a enum-told returns returns-2)
