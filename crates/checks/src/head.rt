@@ -1,7 +1,13 @@
 // The header and the room for the offsets: rows 1 to 6, then 7 for the offsets.
+use crate::check::Check;
+use crate::check::refuses;
+use crate::sizes::MAX_S;
+use crate::sizes::MAX_VALUES;
+use crate::sizes::MIN_S;
+use crate::sizes::size_of;
+use crate::sizes::vectors_of;
+use crate::sizes::wide;
 use bits::numbers::read_u32;
-use crate::check::{refuses, Check};
-use crate::sizes::{size_of, vectors_of, wide, MAX_S, MAX_VALUES, MIN_S};
 ghost use mathlib.Core.Path.{_≡_};
 ghost use Prim.Native.Nat.{_≤_, _<_};
 ghost use lib.ListN.{length};

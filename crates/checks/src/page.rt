@@ -1,10 +1,19 @@
 // All vectors of a page in turn, then 14; and the check of a whole page.
-use bits::numbers::read_u32;
-use crate::check::{refuses, Check};
-use crate::head::{check_head, check_offsets, count_of, s_of, vectors_in};
+use crate::check::Check;
+use crate::check::refuses;
+use crate::head::check_head;
+use crate::head::check_offsets;
+use crate::head::count_of;
+use crate::head::s_of;
+use crate::head::vectors_in;
 use crate::kind::Kind;
-use crate::sizes::{size_of, vector_size};
-use crate::vector::{check_vector, meta_at, values_here, Cursor};
+use crate::sizes::size_of;
+use crate::sizes::vector_size;
+use crate::vector::Cursor;
+use crate::vector::check_vector;
+use crate::vector::meta_at;
+use crate::vector::values_here;
+use bits::numbers::read_u32;
 ghost use mathlib.Core.Path.{_≡_};
 ghost use Prim.Native.Nat.{_+_, _*_, _^_, _≤_, _<_};
 ghost use lib.ListN.{length, take, drop};

@@ -1,5 +1,7 @@
 // The limits of a page, and how many values, vectors and bytes there are.
-use crate::kind::{meta_bytes, value_bytes, Kind};
+use crate::kind::Kind;
+use crate::kind::meta_bytes;
+use crate::kind::value_bytes;
 ghost use mathlib.Core.Path.{_≡_};
 ghost use Prim.Native.Nat.{_+_, _-_, _*_, _/_, _^_, _≤_, _<_, min};
 ghost use Rattle.digits.specs.Digits.{packedSize};
@@ -7,17 +9,15 @@ ghost use Rattle.rules.specs.Kind.{maxS, maxValues, wordBytes, metaBytes};
 ghost use Rattle.checks.specs.Forms.{formatOf};
 
 pub const MIN_S: usize = 3;
+
 pub const MAX_S: usize = 10;
+
 pub const MAX_VALUES: usize = 16384;
 
 pub fn least(a: usize, b: usize) -> usize
     ensures { λ r. ⌜ r ≡ min a b ⌝ }
 {
-    if a <= b {
-        a
-    } else {
-        b
-    }
+    if a <= b { a } else { b }
 }
 
 // A byte as a count.

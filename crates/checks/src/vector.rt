@@ -1,9 +1,21 @@
 // One vector at the front of a part of a page: its metadata, and rows 8, 7 for metadata, 9 to 12, 7 for data, 13.
-use bits::numbers::{read_u16, read_u32, read_u64};
-use rules::{Exponent, Factor};
-use crate::check::{first_of, refuses, Check};
-use crate::kind::{largest_exponent, largest_width, meta_bytes, value_bytes, Kind};
-use crate::sizes::{least, packed_size, vector_size, wide};
+use crate::check::Check;
+use crate::check::first_of;
+use crate::check::refuses;
+use crate::kind::Kind;
+use crate::kind::largest_exponent;
+use crate::kind::largest_width;
+use crate::kind::meta_bytes;
+use crate::kind::value_bytes;
+use crate::sizes::least;
+use crate::sizes::packed_size;
+use crate::sizes::vector_size;
+use crate::sizes::wide;
+use bits::numbers::read_u16;
+use bits::numbers::read_u32;
+use bits::numbers::read_u64;
+use rules::Exponent;
+use rules::Factor;
 ghost use mathlib.Core.Path.{_≡_};
 ghost use Prim.Native.Nat.{_+_, _*_, _^_, _≤_, _<_};
 ghost use lib.ListN.{length, take, drop};

@@ -3,8 +3,8 @@ use mathlib.Core.Path.{_≡_}
 use lib.Ieee.{Format, Float, binary32, binary64}
 use Rattle.rules.specs.Decimal.{Pair, power, negPower}
 use Rattle.rules.specs.Write.{Allowed}
-use Rattle.decimal.specs.declared.tables.Exponent.{Exponent}
-use Rattle.decimal.specs.declared.tables.Factor.{Factor}
+use Rattle.rules.specs.declared.Exponent.{Exponent}
+use Rattle.rules.specs.declared.Factor.{Factor}
 use Rattle.decimal.specs.declared.tables.Scale32.{Scale32}
 use Rattle.decimal.specs.declared.tables.Scale64.{Scale64}
 

@@ -1,15 +1,13 @@
 // The powers of ten of a pair. An array that a function indexes is made anew at each call, so a vector's powers are looked up once and
 // handed on by value.
+use rules::Exponent;
+use rules::Factor;
 ghost use mathlib.Core.Path.{_≡_};
 ghost use Prim.Native.Nat.{_≤_};
 ghost use lib.Ieee.{binary32, binary64, mul};
 ghost use Rattle.rules.specs.Decimal.{power, negPower};
 ghost use Rattle.rules.specs.Write.{Allowed};
 ghost use Rattle.decimal.specs.Scale.{pairOf, pair32, pair64, Scales32, Scales64};
-
-pub struct Exponent(pub u8);
-
-pub struct Factor(pub u8);
 
 // A pair e, f with its powers: 10^e and 10^-f for the way to the whole number, 10^f and 10^-e for the way back.
 pub struct Scale64 {

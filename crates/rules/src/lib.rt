@@ -10,4 +10,5 @@ pub struct Answer {
 
 // A vector's exponent and its factor, each a type of its own, so that the two can't be swapped.
 pub struct Exponent(pub u8);
+
 pub struct Factor(pub u8);
