@@ -1,3 +1,4 @@
+-- The laws that the proofs of several functions share; crates above cite them too.
 pub mod Bounds
 pub mod Refusals
 pub mod Turns

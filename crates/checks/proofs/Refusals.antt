@@ -1,17 +1,16 @@
 -- Which row refuses: for each group of rows, the first that does once those before it have passed; and one group of rows after another.
 -- Assumes nothing.
-use mathlib.Core.Path.{_≡_, refl, sym, ap, ap₂, _∙_}
+use mathlib.Core.Path.{_≡_, sym, ap, _∙_}
 use mathlib.Core.List.{List}
 use mathlib.Core.Bool.{_||_}
 use Prim.Native.Nat.{ℕ, _+_, _*_, _≤_, _<_}
-use native.Mathlib.Omega.{arith}
 use lib.ListN.{length}
 use lib.Ieee.{Format}
 use borrow.Author.Tests.{lt-ltb, le-ltb, eq-eqb, ne-eqb}
 use Rattle.rules.specs.Kind.{minS, maxS, maxValues, maxExponent, wordBits, metaBytes}
 use Rattle.rules.specs.Page.{versionOf, modeOf, encodingOf, sOf, countOf, vectorsOf, vectorSize, metaAt}
 use Rattle.rules.specs.Page as page
-use Rattle.rules.specs.Verdict.{Rows, row, _then_, Verdict, fine, refuse, first, verdict, the-page, in-vector, _above_, _below_, _isnt_}
+use Rattle.rules.specs.Verdict.{Rows, row, _then_, Verdict, fine, refuse, first, verdict, settle, answer, after, the-page, in-vector, _above_, _below_, _isnt_}
 use Rattle.rules.specs.Read.{headRows, offsetsRow, metaRows, listRows, Cursor, here, vectorRows}
 use Rattle.rules.specs.declared.Answer.{Answer}
 use Rattle.rules.specs.declared.Exponent.{Exponent}
@@ -37,6 +36,14 @@ module _ (r : Check) (x : Verdict) (e : asVerdict r ≡ x) where
 
   pub continues : (y z : Verdict) → r ≡ Fine → z ≡ first x y → z ≡ y
   continues y z f h = h ∙ ap (λ (k : Verdict). first k y) (check-fine r e f)
+
+-- what a call answers and leaves where its rows refuse
+module _ (a : Answer) (v : Verdict) (xs : List ℕ) (e : asVerdict (No a) ≡ v) where
+  pub refused-answer : a ≡ answer (settle v xs)
+  refused-answer = ap (λ (x : Verdict). answer (settle x xs)) e
+
+  pub refused-after : (out : List ℕ) → out ≡ after (settle v xs) out
+  refused-after out = ap (λ (x : Verdict). after (settle x xs) out) e
 
 -- ---- rows 1 to 6, and 7 for the offsets
 

@@ -1,5 +1,5 @@
 -- One turn of each loop, on plain lists: over the positions of a vector, and over the vectors of a page. Assumes nothing.
-use mathlib.Core.Path.{_≡_, sym, ap, ap₂, _∙_}
+use mathlib.Core.Path.{_≡_, refl, sym, ap, ap₂, _∙_}
 use mathlib.Core.Bool.{not, _||_}
 use mathlib.Core.List.{List, [], _∷_}
 use Prim.Native.Nat.{ℕ, suc, _+_, _-_, _*_, _^_, _≤_, _<_, min}
@@ -12,9 +12,12 @@ use lib.Ieee.{Format}
 use borrow.Author.Tests.{lt-ltb, le-ltb}
 use Rattle.digits.specs.Digits.{number, numbers, packedSize}
 use Rattle.rules.specs.Kind.{metaBytes}
-use Rattle.rules.specs.Page.{Meta, sOf, countOf, vectorsOf, offsetsOf, bodyOf, vectorSize, metaAt, rawFrom}
+use Rattle.rules.specs.Page.{Meta, sOf, countOf, vectorsOf, offsetsOf, bodyOf, vectorSize, metaAt, rawFrom, rawsFrom, rawsOf}
 use Rattle.rules.specs.Verdict.{Rows, row, Verdict, fine, refuse, first, verdict, the-page, in-vector-at, _above_, _below_}
-use Rattle.rules.specs.Read.{Cursor, start, positionsRows, listRows, vectorRows, vectorsRows}
+use Rattle.rules.specs.Read.{start, positionsRows, listRows, vectorRows, vectorsRows}
+use Rattle.rules.specs.Vector.{Raw}
+use Rattle.rules.proofs.Rows.{first-fine}
+use Rattle.rules.proofs.Reading.{Passed, vector-fine}
 use Rattle.checks.specs.Forms.{no-position}
 
 -- ---- numbers in a row: the one at place i, and those behind it
@@ -83,6 +86,10 @@ abbrev pub vectors-left : Format → List ℕ → ℕ → ℕ → ℕ → ℕ �
 vectors-left fmt page size many v at left =
     vectorsRows fmt size (record { vector = v; offset = at; left = left }) (numbers 4 (many - v) (drop (8 + 4 * v) page)) (drop (8 + at) page)
 
+-- what stands behind s bytes from there
+behind : (page : List ℕ) (at s : ℕ) → drop s (drop (8 + at) page) ≡ drop (8 + (at + s)) page
+behind page at s = drop-drop s (8 + at) page ∙ ap (λ (x : ℕ). drop x page) (add-assoc 8 at s)
+
 module _ (fmt : Format) (page part : List ℕ) (size many v at left o n k : ℕ) (X : Verdict) (more : v < many)
     (ep : part ≡ drop (8 + at) page) (eo : o ≡ number (take 4 (drop (8 + 4 * v) page))) (en : n ≡ min size left) (ek : k ≡ vectorSize fmt n (metaAt fmt part))
     (inv : X ≡ verdict (vectors-left fmt page size many v at left)) where
@@ -93,11 +100,10 @@ module _ (fmt : Format) (page part : List ℕ) (size many v at left o n k : ℕ)
       let S : ℕ = vectorSize fmt (min size left) (metaAt fmt B) in
       let os : List ℕ = numbers 4 (many - (v + 1)) (drop (8 + 4 * (v + 1)) page) in
       let l : left - size ≡ left - min size left = omega arith in
-      let d : drop S B ≡ drop (8 + (at + S)) page = drop-drop S (8 + at) page ∙ ap (λ (x : ℕ). drop x page) (add-assoc 8 at S) in
       rw (ek, ep, en)
       (inv ∙ ap (λ (x : List ℕ). verdict (vectorsRows fmt size (record { vector = v; offset = at; left = left }) x B)) (numbers-at 4 many v 8 page more ∙ ap (λ (x : ℕ). x ∷ os) (sym eo))
       ∙ ap (λ (x : ℕ). first (verdict (vectorRows fmt size (record { vector = v; offset = at; left = left }) o (metaAt fmt B) B)) (verdict (vectorsRows fmt size (record { vector = x; offset = at + S; left = left - size }) os (drop S B)))) (sym (add-one v))
-      ∙ ap₂ (λ (x : ℕ) (y : List ℕ). first (verdict (vectorRows fmt size (record { vector = v; offset = at; left = left }) o (metaAt fmt B) B)) (verdict (vectorsRows fmt size (record { vector = v + 1; offset = at + S; left = x }) os y))) l d)
+      ∙ ap₂ (λ (x : ℕ) (y : List ℕ). first (verdict (vectorRows fmt size (record { vector = v; offset = at; left = left }) o (metaAt fmt B) B)) (verdict (vectorsRows fmt size (record { vector = v + 1; offset = at + S; left = x }) os y))) l (behind page at S))
 
 module _ (fmt : Format) (page : List ℕ) (size many v at left : ℕ) (X : Verdict) (last : many ≤ v) (fits : 8 + at ≤ length page)
     (inv : X ≡ verdict (vectors-left fmt page size many v at left)) where
@@ -120,3 +126,47 @@ unfolding offsetsOf bodyOf
 vectors-start fmt page size many left es em el =
     rw (es, em, el)
     (ap (λ (x : List ℕ). verdict (vectorsRows fmt (2 ^ sOf page) (start page) x (drop (8 + 4 * vectorsOf page) page))) (numbers-start 4 (vectorsOf page) 8 page))
+
+-- ---- over a page that passed: what each vector's rows showed, and the vectors as they are read
+
+-- the vectors from number v on, as the rules read them
+abbrev pub raws-left : Format → List ℕ → ℕ → ℕ → ℕ → ℕ → ℕ → List Raw
+raws-left fmt page size many v at left = rawsFrom fmt size left (numbers 4 (many - v) (drop (8 + 4 * v) page)) (drop (8 + at) page)
+
+pub raws-start : (fmt : Format) (page : List ℕ) (size many left : ℕ) → size ≡ 2 ^ sOf page → many ≡ vectorsOf page → left ≡ countOf page
+    → rawsOf fmt page ≡ raws-left fmt page size many 0 (4 * many) left
+unfolding rawsOf offsetsOf bodyOf
+raws-start fmt page size many left es em el =
+    rw (es, em, el)
+    (ap (λ (x : List ℕ). rawsFrom fmt (2 ^ sOf page) (countOf page) x (drop (8 + 4 * vectorsOf page) page)) (numbers-start 4 (vectorsOf page) 8 page))
+
+pub raws-end : (fmt : Format) (page : List ℕ) (size many v at left : ℕ) → many ≤ v → raws-left fmt page size many v at left ≡ []
+unfolding rawsFrom
+raws-end fmt page size many v at left last = rw (numbers-end 4 many v (drop (8 + 4 * v) page) last)
+
+module _ (fmt : Format) (page part : List ℕ) (size many v at left n k : ℕ) (more : v < many)
+    (ep : part ≡ drop (8 + at) page) (en : n ≡ min size left) (ek : k ≡ vectorSize fmt n (metaAt fmt part)) where
+  pub raws-turn : raws-left fmt page size many v at left ≡ rawFrom fmt n (metaAt fmt part) (drop (metaBytes fmt) part) ∷ raws-left fmt page size many (v + 1) (at + k) (left - n)
+  unfolding rawsFrom
+  raws-turn =
+      let B : List ℕ = drop (8 + at) page in
+      let S : ℕ = vectorSize fmt (min size left) (metaAt fmt B) in
+      let os : List ℕ = numbers 4 (many - (v + 1)) (drop (8 + 4 * (v + 1)) page) in
+      let l : left - size ≡ left - min size left = omega arith in
+      rw (ek, ep, en)
+      (ap (λ (x : List ℕ). rawsFrom fmt size left x B) (numbers-at 4 many v 8 page more)
+      ∙ ap₂ (λ (x : ℕ) (y : List ℕ). rawFrom fmt (min size left) (metaAt fmt B) (drop (metaBytes fmt) B) ∷ rawsFrom fmt size x os y) l (behind page at S))
+
+  module _ (ok : verdict (vectors-left fmt page size many v at left) ≡ fine) where
+    passing : (verdict (vectorRows fmt size (record { vector = v; offset = at; left = left }) (number (take 4 (drop (8 + 4 * v) page))) (metaAt fmt part) part) ≡ fine) × (verdict (vectors-left fmt page size many (v + 1) (at + k) (left - n)) ≡ fine)
+    passing = first-fine _ (verdict (vectors-left fmt page size many (v + 1) (at + k) (left - n))) (sym (vector-turn fmt page part size many v at left (number (take 4 (drop (8 + 4 * v) page))) n k fine more ep refl en ek (sym ok)))
+
+    pub vector-passed : Passed fmt n (metaAt fmt part) part
+    vector-passed = rw en (vector-fine fmt size (record { vector = v; offset = at; left = left }) (number (take 4 (drop (8 + 4 * v) page))) (metaAt fmt part) part (passing .0) .1)
+
+    pub vectors-passed : verdict (vectors-left fmt page size many (v + 1) (at + k) (left - n)) ≡ fine
+    vectors-passed = passing .1
+
+-- a vector whose bytes are all there ends inside the page
+pub ends-inside : (page part : List ℕ) (at k : ℕ) → part ≡ drop (8 + at) page → 8 + at ≤ length page → k ≤ length part → 8 + (at + k) ≤ length page
+ends-inside page part at k e h l = let d = ap length e ∙ length-drop (8 + at) page in omega arith

@@ -9,7 +9,7 @@ use crate::sizes::vectors_of;
 use crate::sizes::wide;
 use bits::numbers::read_u32;
 ghost use mathlib.Core.Path.{_≡_};
-ghost use Prim.Native.Nat.{_≤_, _<_};
+ghost use Prim.Native.Nat.{_^_, _≤_, _<_};
 ghost use lib.ListN.{length};
 ghost use Rattle.rules.specs.Kind.{maxValues};
 ghost use Rattle.rules.specs.Page.{sOf, countOf, vectorsOf};
@@ -28,7 +28,7 @@ pub fn s_of(page: &[u8]) -> usize
 // The header's count of values.
 pub fn count_of(page: &[u8]) -> usize
     requires { ⌜ 8 ≤ length (now page) ⌝ }
-    ensures { λ r. ⌜ (r ≡ countOf (now (page .entry))) × (r < 4294967296) ⌝ }
+    ensures { λ r. ⌜ (r ≡ countOf (now (page .entry))) × (r < 2 ^ 32) ⌝ }
 {
     read_u32(page, 4) as usize
 }

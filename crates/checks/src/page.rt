@@ -15,14 +15,11 @@ use crate::vector::meta_at;
 use crate::vector::values_here;
 use bits::numbers::read_u32;
 ghost use mathlib.Core.Path.{_≡_};
-ghost use Prim.Native.Nat.{_+_, _*_, _^_, _≤_, _<_};
-ghost use lib.ListN.{length, take, drop};
-ghost use Rattle.digits.specs.Digits.{numbers};
-ghost use Rattle.rules.specs.Kind.{maxS, maxValues, metaBytes};
-ghost use Rattle.rules.specs.Page.{sOf, offsetsOf, bodyOf, metaAt};
+ghost use Prim.Native.Nat.{_^_};
+ghost use Rattle.rules.specs.Page.{sOf, offsetsOf, bodyOf};
 ghost use Rattle.rules.specs.Verdict.{fine, verdict};
-ghost use Rattle.rules.specs.Read.{headRows, offsetsRow, next, start, vectorsRows, pageRows};
-ghost use Rattle.checks.specs.Forms.{formatOf, asVerdict, asCursor};
+ghost use Rattle.rules.specs.Read.{headRows, offsetsRow, start, vectorsRows, pageRows};
+ghost use Rattle.checks.specs.Forms.{formatOf, asVerdict};
 
 // Each vector in turn, then row 14, once the rows before them pass.
 pub fn check_vectors(page: &[u8], kind: Kind) -> Check

@@ -8,12 +8,14 @@ ghost use Rattle.digits.specs.Digits.{packedSize};
 ghost use Rattle.rules.specs.Kind.{maxS, maxValues, wordBytes, metaBytes};
 ghost use Rattle.checks.specs.Forms.{formatOf};
 
+// Rows 5 and 6 keep s and the count of values to these.
 pub const MIN_S: usize = 3;
 
 pub const MAX_S: usize = 10;
 
 pub const MAX_VALUES: usize = 16384;
 
+// The lesser of two.
 pub fn least(a: usize, b: usize) -> usize
     ensures { λ r. ⌜ r ≡ min a b ⌝ }
 {
@@ -51,7 +53,7 @@ pub fn packed_size(n: usize, width: usize) -> usize
     (n * width + 7) / 8
 }
 
-// How many bytes a vector of n values has.
+// How many bytes a vector of n values has: the rules' `vectorSize`, of any metadata with this width and count of exceptions.
 pub fn vector_size(kind: Kind, n: usize, width: usize, listed: usize) -> usize
     requires { ⌜ (n ≤ 2 ^ maxS) × (width < 256) × (listed < 256 ^ 2) ⌝ }
     ensures { λ r. ⌜ r ≡ metaBytes (formatOf kind) + (packedSize n width + listed * (2 + wordBytes (formatOf kind))) ⌝ }

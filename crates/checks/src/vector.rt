@@ -42,6 +42,7 @@ pub struct Cursor {
     pub left: usize,
 }
 
+// The frame, a word of the kind.
 fn frame_at(part: &[u8], kind: Kind) -> u64
     requires { ⌜ metaBytes (formatOf kind) ≤ length (now part) ⌝ }
     ensures { λ r. ⌜ (r ≡ number (take (wordBytes (formatOf kind)) (drop 4 (now (part .entry))))) × (r < 2 ^ wordBits (formatOf kind)) ⌝ }
@@ -70,7 +71,7 @@ pub fn meta_at(part: &[u8], kind: Kind) -> Meta
     }
 }
 
-// Rows 9 and 10.
+// Rows 9 and 10, of the pair of vector v.
 pub fn check_pair(kind: Kind, v: usize, exponent: Exponent, factor: Factor) -> Check
     ensures { λ r. ⌜ asVerdict r ≡ verdict (pairRows (formatOf kind) v exponent factor) ⌝ }
 {
@@ -169,7 +170,8 @@ pub fn values_here(size: usize, cursor: Cursor) -> usize
     least(size, left)
 }
 
-// Rows 8, 7 for metadata, 9 to 12, 7 for data, 13 of the vector at the cursor, for which the page has this offset.
+// Rows 8, 7 for metadata, 9 to 12, 7 for data, 13, of the vector at the cursor, for which the page has this offset. The metadata's rows
+// can be worked out of any bytes, so row 8 need not be asked first to come first.
 pub fn check_vector(part: &[u8], kind: Kind, size: usize, cursor: Cursor, offset: usize) -> Check
     requires { ⌜ size ≤ 2 ^ maxS ⌝ }
     ensures { λ r. ⌜ asVerdict r ≡ verdict (vectorRows (formatOf kind) size (asCursor cursor) offset (metaAt (formatOf kind) (now (part .entry))) (now (part .entry))) ⌝ }

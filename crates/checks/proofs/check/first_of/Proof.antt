@@ -1,3 +1,4 @@
+-- `check::first_of` meets its contract: the first verdict that refuses decides. Assumes nothing.
 use mathlib.Core.Path.{refl}
 use Rattle.checks.specs.Forms.{asVerdict}
 use Rattle.checks.proofs.Refusals.{stops}
@@ -7,19 +8,15 @@ use Rattle.checks.proofs.check.first_of.Tie as tie
 use Rattle.checks.proofs.check.first_of.Reads as reads
 use Rattle.checks.proofs.check.first_of.Lts as lts
 
--- src/check.rt:28:19
 enum-known-a : tie.Need-enum-known-a
 enum-known-a c = search needs
 
--- src/check.rt:29:24
 enum-told : tie.Need-enum-told
 enum-told c = search needs
 
--- src/check.rt:24:1
 returns : tie.Need-returns
 returns c = stops (c .before .before .before .args .a) _ refl _ (asVerdict (c .before .before .before .args .b)) (c .before .a .given .1)
 
--- src/check.rt:24:1
 returns-2 : tie.Need-returns-2
 returns-2 c = search needs
 

@@ -1,3 +1,4 @@
+-- `head::check_offsets` meets its contract. Assumes nothing.
 use mathlib.Core.Path.{_∙_}
 use native.Mathlib.Omega.{arith}
 use denote.Ref.{now}
@@ -10,27 +11,21 @@ use Rattle.checks.proofs.head.check_offsets.Lts as lts
 use Rattle.checks.proofs.check.refuses.Reads as refuses-reads
 use Rattle.checks.proofs.head.vectors_in.Reads as vectors-in-reads
 
--- src/head.rt:76:9
 vectors-in-requires : tie.Need-vectors-in-requires
 vectors-in-requires c κs = search needs
 
--- src/head.rt:77:25
 mul-if1 : tie.Need-mul-if1
 mul-if1 c = search needs
 
--- src/head.rt:77:21
 add-if1 : tie.Need-add-if1
 add-if1 c = search needs
 
--- src/head.rt:78:9
 refuses-requires : tie.Need-refuses-requires
 refuses-requires c κs = search needs
 
--- src/head.rt:78:9
 returns : tie.Need-returns
 returns c = c .refuses .ensures ∙ no7-offsets (now (c .before .before .before .before .args .page)) (omega arith)
 
--- src/head.rt:72:1
 returns-2 : tie.Need-returns-2
 returns-2 c = offsets-pass (now (c .before .before .before .args .page)) (omega arith)
 

@@ -1,3 +1,4 @@
+-- `head::count_of` meets its contract. Assumes nothing.
 use Rattle.rules.specs.Page.{countOf}
 use native.Mathlib.Omega.{arith}
 use borrow.Author.Needs.{needs}
@@ -7,15 +8,12 @@ use Rattle.checks.proofs.head.count_of.Reads as reads
 use Rattle.checks.proofs.head.count_of.Lts as lts
 use Rattle.bits.proofs.numbers.read_u32.Reads as read-u32-reads
 
--- src/head.rt:27:5
 read-u32-requires : tie.Need-read-u32-requires
 read-u32-requires c κs = search needs
 
--- src/head.rt:27:5
 cast-result : tie.Need-cast-result
 cast-result c = search needs
 
--- src/head.rt:23:1
 returns : tie.Need-returns
 unfolding countOf
 returns c = (c .read-u32 .ensures, omega arith)

@@ -1,3 +1,4 @@
+-- `head::vectors_in` meets its contract: rows 1 to 6 keep s and the count inside the limits. Assumes nothing.
 use mathlib.Core.Path.{_≡_, ap, ap₂, _∙_}
 use Prim.Native.Nat.{ℕ, _+_, _-_, _/_, _^_}
 use native.Mathlib.Omega.{arith}
@@ -13,23 +14,18 @@ use Rattle.checks.proofs.head.s_of.Reads as s-of-reads
 use Rattle.checks.proofs.sizes.size_of.Reads as size-of-reads
 use Rattle.checks.proofs.sizes.vectors_of.Reads as vectors-of-reads
 
--- src/head.rt:35:9
 s-of-requires : tie.Need-s-of-requires
 s-of-requires c κs = header-fine (now (c .before .args .page)) (c .before .pre) .eight
 
--- src/head.rt:36:9
 count-of-requires : tie.Need-count-of-requires
 count-of-requires c κs = header-fine (now (c .before .before .args .page)) (c .before .before .pre) .eight
 
--- src/head.rt:37:9
 size-of-requires : tie.Need-size-of-requires
 size-of-requires c κs = let h = header-fine (now (c .before .before .before .args .page)) (c .before .before .before .pre) in omega (arith, h .high, c .before .s-of .ensures)
 
--- src/head.rt:38:5
 vectors-of-requires : tie.Need-vectors-of-requires
 vectors-of-requires c κs = let h = header-fine (now (c .before .before .before .before .args .page)) (c .before .before .before .before .pre) in (omega (arith, h .many), omega arith, omega arith)
 
--- src/head.rt:31:1
 returns : tie.Need-returns
 returns c =
     let h = header-fine (now (c .before .before .before .before .before .args .page)) (c .before .before .before .before .before .pre) in

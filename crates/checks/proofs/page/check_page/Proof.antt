@@ -1,3 +1,4 @@
+-- `page::check_page` meets its contract: three groups of rows, one after the other. Assumes nothing.
 use Rattle.checks.specs.declared.check.Check.the-variants.{No}
 use Rattle.rules.specs.Read.{pageRows}
 use Rattle.checks.proofs.Refusals.{check-fine, stops, goes-on}
@@ -10,15 +11,12 @@ use Rattle.checks.proofs.head.check_head.Reads as check-head-reads
 use Rattle.checks.proofs.head.check_offsets.Reads as check-offsets-reads
 use Rattle.checks.proofs.page.check_vectors.Reads as check-vectors-reads
 
--- src/page.rt:60:11
 check-head-requires : tie.Need-check-head-requires
 check-head-requires c κs = search needs
 
--- src/page.rt:61:19
 enum-known-answer : tie.Need-enum-known-answer
 enum-known-answer c = search needs
 
--- src/page.rt:62:13
 returns : tie.Need-returns
 unfolding pageRows
 returns c = stops (c .before .before .before .check-head .result) _ (c .before .before .before .check-head .ensures) _ _ (c .before .answer .given .1)
@@ -26,15 +24,12 @@ returns c = stops (c .before .before .before .check-head .result) _ (c .before .
 enum-told : tie.Need-enum-told
 enum-told c = search needs
 
--- src/page.rt:66:11
 check-offsets-requires : tie.Need-check-offsets-requires
 check-offsets-requires c κs = check-fine (c .before .before .check-head .result) (c .before .before .check-head .ensures) (c .enum-told .given .1)
 
--- src/page.rt:67:19
 enum-known-answer-2 : tie.Need-enum-known-answer-2
 enum-known-answer-2 c = search needs
 
--- src/page.rt:68:13
 returns-2 : tie.Need-returns-2
 unfolding pageRows
 returns-2 c =
@@ -44,12 +39,10 @@ returns-2 c =
 enum-told-2 : tie.Need-enum-told-2
 enum-told-2 c = search needs
 
--- src/page.rt:72:5
 check-vectors-requires : tie.Need-check-vectors-requires
 check-vectors-requires c κs =
     (check-fine (c .before .before .before .before .before .check-head .result) (c .before .before .before .before .before .check-head .ensures) (c .before .before .before .enum-told .given .1), check-fine (c .before .before .check-offsets .result) (c .before .before .check-offsets .ensures) (c .enum-told2 .given .1))
 
--- src/page.rt:57:1
 returns-3 : tie.Need-returns-3
 unfolding pageRows
 returns-3 c =

@@ -1,5 +1,6 @@
+-- `sizes::packed_size` meets its contract: the bits of a vector's fields can be counted. Assumes nothing.
 use mathlib.Core.Path.{refl}
-use Prim.Native.Nat.{ℕ, _^_}
+use Prim.Native.Nat.{_^_}
 use native.Mathlib.Omega.{arith}
 use Rattle.rules.specs.Kind.{maxS}
 use Rattle.checks.proofs.Bounds.{small}
@@ -8,15 +9,12 @@ use Rattle.checks.proofs.sizes.packed_size.Tie as tie
 use Rattle.checks.proofs.sizes.packed_size.Reads as reads
 use Rattle.checks.proofs.sizes.packed_size.Lts as lts
 
--- src/sizes.rt:44:6
 mul-result : tie.Need-mul-result
 mul-result c = omega (arith, small (c .args .n) (c .args .width) {c = 2 ^ maxS} {d = 255} (omega arith) (omega arith))
 
--- src/sizes.rt:44:6
 add-result : tie.Need-add-result
 add-result c = omega (arith, small (c .args .n) (c .args .width) {c = 2 ^ maxS} {d = 255} (omega arith) (omega arith))
 
--- src/sizes.rt:40:1
 returns : tie.Need-returns
 returns c = (refl, omega (arith, small (c .args .n) (c .args .width) {c = 2 ^ maxS} {d = 255} (omega arith) (omega arith)))
 

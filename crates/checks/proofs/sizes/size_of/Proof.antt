@@ -1,3 +1,4 @@
+-- `sizes::size_of` meets its contract. Assumes nothing.
 use Rattle.checks.proofs.Bounds.{two-to}
 use borrow.Author.Needs.{needs}
 use Rattle.checks.proofs.sizes.size_of.Statement.{statement}
@@ -5,11 +6,9 @@ use Rattle.checks.proofs.sizes.size_of.Tie as tie
 use Rattle.checks.proofs.sizes.size_of.Reads as reads
 use Rattle.checks.proofs.sizes.size_of.Lts as lts
 
--- src/sizes.rt:28:5
 shl-result : tie.Need-shl-result
 shl-result c = search needs
 
--- src/sizes.rt:24:1
 returns : tie.Need-returns
 returns c = two-to (c .args .s) (c .pre)
 

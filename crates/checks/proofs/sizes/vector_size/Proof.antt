@@ -1,7 +1,7 @@
-use mathlib.Core.Path.{_≡_, ap, ap₂, _∙_}
+-- `sizes::vector_size` meets its contract: a vector's bytes can be counted. Assumes nothing.
+use mathlib.Core.Path.{ap, ap₂, _∙_}
 use Prim.Native.Nat.{ℕ, _+_, _*_, _≤_}
 use native.Mathlib.Omega.{arith}
-use Rattle.digits.specs.Digits.{packedSize}
 use Rattle.rules.specs.Kind.{metaBytes, wordBytes}
 use Rattle.checks.specs.Forms.{formatOf}
 use Rattle.checks.proofs.Bounds.{small}
@@ -17,35 +17,27 @@ use Rattle.checks.proofs.sizes.packed_size.Reads as packed-size-reads
 few : (c : tie.After-meta-bytes) → c .before .before .before .args .listed * (2 + c .before .value-bytes .result) ≤ 65535 * 10
 few c = small (c .before .before .before .args .listed) (2 + c .before .value-bytes .result) {c = 65535} {d = 10} (omega arith) (omega arith)
 
--- src/sizes.rt:52:9
 packed-size-requires : tie.Need-packed-size-requires
 packed-size-requires c κs = search needs
 
--- src/sizes.rt:53:9
 value-bytes-requires : tie.Need-value-bytes-requires
 value-bytes-requires c κs = search needs
 
--- src/sizes.rt:54:5
 meta-bytes-requires : tie.Need-meta-bytes-requires
 meta-bytes-requires c κs = search needs
 
--- src/sizes.rt:54:44
 add-result : tie.Need-add-result
 add-result c = search needs
 
--- src/sizes.rt:54:34
 mul-result : tie.Need-mul-result
 mul-result c = omega (arith, few c)
 
--- src/sizes.rt:54:25
 add-result-2 : tie.Need-add-result-2
 add-result-2 c = omega (arith, few c)
 
--- src/sizes.rt:54:5
 add-result-3 : tie.Need-add-result-3
 add-result-3 c = omega (arith, few c)
 
--- src/sizes.rt:48:1
 returns : tie.Need-returns
 returns c =
     let a = c .before .before .before .args in

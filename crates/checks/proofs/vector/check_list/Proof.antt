@@ -1,4 +1,5 @@
-use mathlib.Core.Path.{_≡_, ap, ap₂, _∙_}
+-- `vector::check_list` meets its contract: the positions stand behind the packed fields, inside the vector. Assumes nothing.
+use mathlib.Core.Path.{ap, ap₂, _∙_}
 use Prim.Native.Nat.{ℕ, _+_}
 use native.Mathlib.Omega.{arith}
 use lib.ListN.{drop}
@@ -21,30 +22,24 @@ use Rattle.checks.proofs.sizes.packed_size.Reads as packed-size-reads
 use Rattle.checks.proofs.vector.check_positions.Reads as check-positions-reads
 use Rattle.checks.proofs.vector.meta_at.Reads as meta-at-reads
 
--- src/vector.rt:135:9
 meta-at-requires : tie.Need-meta-at-requires
 meta-at-requires c κs = search needs
 
--- src/vector.rt:137:9
 meta-bytes-requires : tie.Need-meta-bytes-requires
 meta-bytes-requires c κs = search needs
 
--- src/vector.rt:138:9
 packed-size-requires : tie.Need-packed-size-requires
 packed-size-requires c κs = search needs
 
--- src/vector.rt:139:27
 add-check-positions : tie.Need-add-check-positions
 add-check-positions c = search needs
 
--- src/vector.rt:139:5
 check-positions-requires : tie.Need-check-positions-requires
 check-positions-requires c κs =
     let fmt = formatOf (c .before .before .before .before .args .kind) in
     let m = asMeta (c .before .before .meta-at .result) in
     omega (arith, positions-fit fmt (c .before .before .before .before .args .n) m, ap (vectorSize fmt (c .before .before .before .before .args .n)) (c .before .before .meta-at .ensures .meta-is))
 
--- src/vector.rt:131:1
 returns : tie.Need-returns
 returns c =
     let a = c .before .before .before .before .before .args in

@@ -1,4 +1,5 @@
-use mathlib.Core.Path.{_≡_, sym, _∙_}
+-- `vector::check_meta` meets its contract: each return is the row that decides once those before it have passed. Assumes nothing.
+use mathlib.Core.Path.{sym, _∙_}
 use native.Mathlib.Omega.{arith}
 use denote.Ref.{now}
 use Rattle.checks.specs.Forms.{formatOf}
@@ -15,31 +16,24 @@ use Rattle.checks.proofs.sizes.vector_size.Reads as vector-size-reads
 use Rattle.checks.proofs.vector.check_pair.Reads as check-pair-reads
 use Rattle.checks.proofs.vector.meta_at.Reads as meta-at-reads
 
--- src/vector.rt:82:9
 meta-bytes-requires : tie.Need-meta-bytes-requires
 meta-bytes-requires c κs = search needs
 
--- src/vector.rt:84:9
 refuses-requires : tie.Need-refuses-requires
 refuses-requires c κs = search needs
 
--- src/vector.rt:84:9
 returns : tie.Need-returns
 returns c = let a = c .before .before .before .before .args in c .refuses .ensures ∙ no7-meta (formatOf (a .kind)) (a .v) (a .n) (now (a .part)) (omega arith)
 
--- src/vector.rt:86:9
 meta-at-requires : tie.Need-meta-at-requires
 meta-at-requires c κs = search needs
 
--- src/vector.rt:87:11
 check-pair-requires : tie.Need-check-pair-requires
 check-pair-requires c κs = search needs
 
--- src/vector.rt:88:19
 enum-known-answer : tie.Need-enum-known-answer
 enum-known-answer c = search needs
 
--- src/vector.rt:89:13
 returns-2 : tie.Need-returns-2
 returns-2 c =
     let a = c .before .before .before .before .before .before .before .before .args in
@@ -50,11 +44,9 @@ returns-2 c =
 enum-told : tie.Need-enum-told
 enum-told c = search needs
 
--- src/vector.rt:95:9
 refuses-requires-2 : tie.Need-refuses-requires-2
 refuses-requires-2 c κs = search needs
 
--- src/vector.rt:95:9
 returns-3 : tie.Need-returns-3
 returns-3 c =
     let a = c .before .before .before .before .before .before .before .before .before .args in
@@ -62,15 +54,12 @@ returns-3 c =
     let p9 = check-fine (c .before .before .before .before .check-pair .result) (c .before .before .before .before .check-pair .ensures) (c .before .before .enum-told .given .1) in
     c .refuses2 .ensures ∙ no11 (formatOf (a .kind)) (a .v) (a .n) (now (a .part)) (m .result) (m .ensures .meta-is) (omega arith) p9 (c .before .if2 .taken)
 
--- src/vector.rt:98:9
 largest-width-requires : tie.Need-largest-width-requires
 largest-width-requires c κs = search needs
 
--- src/vector.rt:100:9
 refuses-requires-3 : tie.Need-refuses-requires-3
 refuses-requires-3 c κs = search needs
 
--- src/vector.rt:100:9
 returns-4 : tie.Need-returns-4
 returns-4 c =
     let a = c .before .before .before .before .before .before .before .before .before .before .before .args in
@@ -78,15 +67,12 @@ returns-4 c =
     let p9 = check-fine (c .before .before .before .before .before .before .check-pair .result) (c .before .before .before .before .before .before .check-pair .ensures) (c .before .before .before .before .enum-told .given .1) in
     c .refuses3 .ensures ∙ no12 (formatOf (a .kind)) (a .v) (a .n) (now (a .part)) (m .result) (m .ensures .meta-is) (omega arith) p9 (c .before .before .before .if2 .left) (omega arith)
 
--- src/vector.rt:102:9
 vector-size-requires : tie.Need-vector-size-requires
 vector-size-requires c κs = search needs
 
--- src/vector.rt:104:9
 refuses-requires-4 : tie.Need-refuses-requires-4
 refuses-requires-4 c κs = search needs
 
--- src/vector.rt:104:9
 returns-5 : tie.Need-returns-5
 returns-5 c =
     let a = c .before .before .before .before .before .before .before .before .before .before .before .before .before .args in
@@ -94,7 +80,6 @@ returns-5 c =
     let p9 = check-fine (c .before .before .before .before .before .before .before .before .check-pair .result) (c .before .before .before .before .before .before .before .before .check-pair .ensures) (c .before .before .before .before .before .before .enum-told .given .1) in
     c .refuses4 .ensures ∙ no7-data (formatOf (a .kind)) (a .v) (a .n) (now (a .part)) (m .result) (m .ensures .meta-is) (omega arith) p9 (c .before .before .before .before .before .if2 .left) (omega arith) (omega arith)
 
--- src/vector.rt:78:1
 returns-6 : tie.Need-returns-6
 returns-6 c =
     let a = c .before .before .before .before .before .before .before .before .before .before .before .before .args in

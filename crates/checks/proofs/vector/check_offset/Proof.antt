@@ -1,3 +1,4 @@
+-- `vector::check_offset` meets its contract. Assumes nothing.
 use mathlib.Core.Path.{_∙_}
 use Rattle.checks.proofs.Refusals.{no8, offset-passes}
 use borrow.Author.Needs.{needs}
@@ -7,15 +8,12 @@ use Rattle.checks.proofs.vector.check_offset.Reads as reads
 use Rattle.checks.proofs.vector.check_offset.Lts as lts
 use Rattle.checks.proofs.check.refuses.Reads as refuses-reads
 
--- src/vector.rt:147:9
 refuses-requires : tie.Need-refuses-requires
 refuses-requires c κs = search needs
 
--- src/vector.rt:147:9
 returns : tie.Need-returns
 returns c = let a = c .before .before .args in c .refuses .ensures ∙ no8 (a .v) (a .offset) (a .laid) (c .before .if1 .taken)
 
--- src/vector.rt:143:1
 returns-2 : tie.Need-returns-2
 returns-2 c = let a = c .before .args in offset-passes (a .v) (a .offset) (a .laid) (c .if1 .left)
 

@@ -1,3 +1,4 @@
+-- `vector::check_pair` meets its contract. Assumes nothing.
 use mathlib.Core.Path.{_∙_}
 use native.Mathlib.Omega.{arith}
 use Rattle.checks.specs.Forms.{formatOf}
@@ -10,27 +11,21 @@ use Rattle.checks.proofs.vector.check_pair.Lts as lts
 use Rattle.checks.proofs.check.refuses.Reads as refuses-reads
 use Rattle.checks.proofs.kind.largest_exponent.Reads as largest-exponent-reads
 
--- src/vector.rt:67:9
 largest-exponent-requires : tie.Need-largest-exponent-requires
 largest-exponent-requires c κs = search needs
 
--- src/vector.rt:69:9
 refuses-requires : tie.Need-refuses-requires
 refuses-requires c κs = search needs
 
--- src/vector.rt:69:9
 returns : tie.Need-returns
 returns c = let a = c .before .before .before .args in c .refuses .ensures ∙ no9 (formatOf (a .kind)) (a .v) (a .exponent) (a .factor) (omega arith)
 
--- src/vector.rt:72:9
 refuses-requires-2 : tie.Need-refuses-requires-2
 refuses-requires-2 c κs = search needs
 
--- src/vector.rt:72:9
 returns-2 : tie.Need-returns-2
 returns-2 c = let a = c .before .before .before .before .args in c .refuses2 .ensures ∙ no10 (formatOf (a .kind)) (a .v) (a .exponent) (a .factor) (omega arith) (omega arith)
 
--- src/vector.rt:62:1
 returns-3 : tie.Need-returns-3
 returns-3 c = let a = c .before .before .before .args in pair-passes (formatOf (a .kind)) (a .v) (a .exponent) (a .factor) (omega arith) (omega arith)
 

@@ -1,5 +1,6 @@
+-- `vector::check_positions` meets its contract: the rows of all positions are those of the positions from the loop's index on. Assumes nothing.
 use mathlib.Core.Path.{_≡_, _∙_}
-use Prim.Native.Nat.{ℕ, _-_, _≤_}
+use Prim.Native.Nat.{_-_, _≤_}
 use native.Mathlib.Omega.{arith}
 use lib.ListN.{drop}
 use denote.Ref.{now}
@@ -23,31 +24,24 @@ Inv-loop part at listed v n low₀ i₀ low i =
 abbrev μ-loop : tie.MeasureT-loop
 μ-loop part at listed v n low₀ i₀ low i = listed - i
 
--- src/vector.rt:116:5
 loop-holds : tie.Need-loop-holds Inv-loop μ-loop
 loop-holds c = let a = c .before .args in (omega arith, positions-start (now (a .part)) (a .at) (a .listed) (a .v) (a .n))
 
--- src/vector.rt:117:37
 mul-read-u16 : tie.Need-mul-read-u16 Inv-loop μ-loop
 mul-read-u16 c = search needs
 
--- src/vector.rt:117:32
 add-read-u16 : tie.Need-add-read-u16 Inv-loop μ-loop
 add-read-u16 c = search needs
 
--- src/vector.rt:117:17
 read-u16-requires : tie.Need-read-u16-requires Inv-loop μ-loop
 read-u16-requires c κs = search needs
 
--- src/vector.rt:117:17
 cast-p : tie.Need-cast-p Inv-loop μ-loop
 cast-p c = search needs
 
--- src/vector.rt:119:13
 refuses-requires : tie.Need-refuses-requires Inv-loop μ-loop
 refuses-requires c κs = search needs
 
--- src/vector.rt:119:13
 returns : tie.Need-returns Inv-loop μ-loop
 returns c =
     let a = c .before .before .before .before .before .before .args in
@@ -55,11 +49,9 @@ returns c =
     c .refuses .ensures
     ∙ position-high (now (a .part)) (a .at) (a .listed) (a .v) (a .n) (l .low) (l .i) (c .before .before .read-u16 .result) _ (c .before .before .before .loop-test .taken) (c .before .before .read-u16 .ensures) (l .inv .1) (c .before .if1 .taken)
 
--- src/vector.rt:122:13
 refuses-requires-2 : tie.Need-refuses-requires-2 Inv-loop μ-loop
 refuses-requires-2 c κs = search needs
 
--- src/vector.rt:122:13
 returns-2 : tie.Need-returns-2 Inv-loop μ-loop
 returns-2 c =
     let a = c .before .before .before .before .before .before .before .args in
@@ -67,26 +59,21 @@ returns-2 c =
     c .refuses2 .ensures
     ∙ position-low (now (a .part)) (a .at) (a .listed) (a .v) (a .n) (l .low) (l .i) (c .before .before .before .read-u16 .result) _ (c .before .before .before .before .loop-test .taken) (c .before .before .before .read-u16 .ensures) (l .inv .1) (c .before .before .if1 .left) (c .before .if2 .taken)
 
--- src/vector.rt:124:15
 add-low : tie.Need-add-low Inv-loop μ-loop
 add-low c = search needs
 
--- src/vector.rt:125:9
 add-i : tie.Need-add-i Inv-loop μ-loop
 add-i c = search needs
 
--- src/vector.rt:116:5
 loop-less : tie.Need-loop-less Inv-loop μ-loop
 loop-less c = search needs
 
--- src/vector.rt:116:5
 loop-again : tie.Need-loop-again Inv-loop μ-loop
 loop-again c =
     let a = c .before .before .before .before .before .before .args in
     let l = c .before .before .before .before .loop in
     (omega arith, position-next (now (a .part)) (a .at) (a .listed) (a .v) (a .n) (l .low) (l .i) (c .before .before .read-u16 .result) _ (c .before .before .before .loop-test .taken) (c .before .before .read-u16 .ensures) (l .inv .1) (c .before .if1 .left) (c .if2 .left))
 
--- src/vector.rt:110:1
 returns-3 : tie.Need-returns-3 Inv-loop μ-loop
 returns-3 c =
     let a = c .before .before .before .args in

@@ -1,3 +1,4 @@
+-- `vector::check_vector` meets its contract: row 8 and the rows of the metadata, then row 13. Assumes nothing.
 use mathlib.Core.Path.{_≡_, ap₂, _∙_}
 use native.Mathlib.Omega.{arith}
 use lib.Ieee.{Format}
@@ -36,27 +37,21 @@ meta-rows c = metaRows (fmt-at c) (c .before .before .before .before .before .ar
 both : (c : tie.After-first-of) → asVerdict (c .first-of .result) ≡ verdict (offset-row c then meta-rows c)
 both c = c .first-of .ensures ∙ ap₂ first (c .before .before .check-offset .ensures) (c .before .check-meta .ensures)
 
--- src/vector.rt:167:9
 values-here-requires : tie.Need-values-here-requires
 values-here-requires c κs = search needs
 
--- src/vector.rt:168:9
 check-offset-requires : tie.Need-check-offset-requires
 check-offset-requires c κs = search needs
 
--- src/vector.rt:169:9
 check-meta-requires : tie.Need-check-meta-requires
 check-meta-requires c κs = search needs
 
--- src/vector.rt:170:11
 first-of-requires : tie.Need-first-of-requires
 first-of-requires c κs = search needs
 
--- src/vector.rt:171:19
 enum-known-answer : tie.Need-enum-known-answer
 enum-known-answer c = search needs
 
--- src/vector.rt:172:13
 returns : tie.Need-returns
 returns c =
     let a = c .before .before .before .before .before .before .before .before .args in
@@ -66,14 +61,12 @@ returns c =
 enum-told : tie.Need-enum-told
 enum-told c = search needs
 
--- src/vector.rt:176:5
 check-list-requires : tie.Need-check-list-requires
 check-list-requires c κs =
     let a = c .before .before .before .before .before .before .before .args in
     let ok = then-fine (offset-row (c .before .before)) (meta-rows (c .before .before)) (check-fine (c .before .before .first-of .result) (both (c .before .before)) (c .enum-told .given .1)) in
     (omega arith, meta-fine (fmt-at (c .before .before)) (a .cursor .vector) (c .before .before .before .before .before .values-here .result) (meta-here (c .before .before)) (now (a .part)) (ok .1) .whole)
 
--- src/vector.rt:161:1
 returns-2 : tie.Need-returns-2
 returns-2 c =
     let a = c .before .before .before .before .before .before .before .before .args in

@@ -1,3 +1,4 @@
+-- `vector::frame_at` meets its contract: a frame has as many bytes as its kind's word. Assumes nothing.
 use mathlib.Core.Path.{_≡_, sym, subst}
 use Prim.Native.Nat.{_^_, _≤_, _<_}
 use native.Mathlib.Omega.{arith}
@@ -15,27 +16,21 @@ use Rattle.checks.proofs.vector.frame_at.Lts as lts
 use Rattle.bits.proofs.numbers.read_u32.Reads as read-u32-reads
 use Rattle.bits.proofs.numbers.read_u64.Reads as read-u64-reads
 
--- src/vector.rt:38:25
 enum-told : tie.Need-enum-told
 enum-told c = search needs
 
--- src/vector.rt:38:25
 read-u32-requires : tie.Need-read-u32-requires
 read-u32-requires c κs = let h = subst (λ (k : Kind). metaBytes (formatOf k) ≤ length (now (c .before .before .before .args .part))) (c .enum-told .given .1) (c .before .before .before .pre) in omega arith
 
--- src/vector.rt:38:25
 cast-result : tie.Need-cast-result
 cast-result c = search needs
 
--- src/vector.rt:39:25
 enum-told-2 : tie.Need-enum-told-2
 enum-told-2 c = search needs
 
--- src/vector.rt:39:25
 read-u64-requires : tie.Need-read-u64-requires
 read-u64-requires c κs = let h = subst (λ (k : Kind). metaBytes (formatOf k) ≤ length (now (c .before .before .before .args .part))) (c .enum-told2 .given .1) (c .before .before .before .pre) in omega arith
 
--- src/vector.rt:33:1
 returns : tie.Need-returns
 returns c =
     subst
@@ -43,7 +38,6 @@ returns c =
     (sym (c .before .enum-told .given .1))
     (c .read-u32 .ensures, omega arith)
 
--- src/vector.rt:33:1
 returns-2 : tie.Need-returns-2
 returns-2 c =
     subst

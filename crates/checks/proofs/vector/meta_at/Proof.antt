@@ -1,11 +1,10 @@
-use mathlib.Core.Path.{_≡_, ap, _∙_}
-use mathlib.Core.List.{List}
-use Prim.Native.Nat.{ℕ, _+_, _<_}
+-- `vector::meta_at` meets its contract: each field is read where the layout has it. Assumes nothing.
+use mathlib.Core.Path.{ap, _∙_}
+use Prim.Native.Nat.{ℕ, _+_}
 use native.Mathlib.Omega.{arith}
 use lib.ListN.{getD}
 use denote.Ref.{now}
 use Rattle.rules.specs.Page.{metaAt}
-use Rattle.checks.specs.Forms.{formatOf}
 use borrow.Author.Needs.{needs}
 use Rattle.checks.proofs.vector.meta_at.Statement.{statement}
 use Rattle.checks.proofs.vector.meta_at.Tie as tie
@@ -16,43 +15,33 @@ use Rattle.checks.proofs.kind.value_bytes.Reads as value-bytes-reads
 use Rattle.checks.proofs.sizes.wide.Reads as wide-reads
 use Rattle.checks.proofs.vector.frame_at.Reads as frame-at-reads
 
--- src/vector.rt:48:9
 value-bytes-requires : tie.Need-value-bytes-requires
 value-bytes-requires c κs = search needs
 
--- src/vector.rt:49:9
 frame-at-requires : tie.Need-frame-at-requires
 frame-at-requires c κs = search needs
 
--- src/vector.rt:50:18
 read-u16-requires : tie.Need-read-u16-requires
 read-u16-requires c κs = search needs
 
--- src/vector.rt:50:18
 cast-listed : tie.Need-cast-listed
 cast-listed c = search needs
 
--- src/vector.rt:51:27
 add-wide : tie.Need-add-wide
 add-wide c = search needs
 
--- src/vector.rt:51:22
 shared-slice-read-wide : tie.Need-shared-slice-read-wide
 shared-slice-read-wide c = search needs
 
--- src/vector.rt:51:9
 wide-requires : tie.Need-wide-requires
 wide-requires c κs = search needs
 
--- src/vector.rt:53:28
 shared-slice-read-t10 : tie.Need-shared-slice-read-t10
 shared-slice-read-t10 c = search needs
 
--- src/vector.rt:54:24
 shared-slice-read-t14 : tie.Need-shared-slice-read-t14
 shared-slice-read-t14 c = search needs
 
--- src/vector.rt:44:1
 returns : tie.Need-returns
 unfolding metaAt
 returns c =
