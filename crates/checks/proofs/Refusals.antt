@@ -1,9 +1,9 @@
 -- Which row refuses: for each group of rows, the first that does once those before it have passed; and one group of rows after another.
 -- Assumes nothing.
 use mathlib.Core.Path.{_≡_, sym, ap, _∙_}
-use mathlib.Core.List.{List}
+use mathlib.Core.List.{List, _∷_}
 use mathlib.Core.Bool.{_||_}
-use Prim.Native.Nat.{ℕ, _+_, _*_, _≤_, _<_}
+use Prim.Native.Nat.{ℕ, suc, _+_, _*_, _≤_, _<_}
 use lib.ListN.{length}
 use lib.Ieee.{Format}
 use borrow.Author.Tests.{lt-ltb, le-ltb, eq-eqb, ne-eqb}
@@ -12,6 +12,8 @@ use Rattle.rules.specs.Page.{versionOf, modeOf, encodingOf, sOf, countOf, vecto
 use Rattle.rules.specs.Page as page
 use Rattle.rules.specs.Verdict.{Rows, row, _then_, Verdict, fine, refuse, first, verdict, settle, answer, after, the-page, in-vector, _above_, _below_, _isnt_}
 use Rattle.rules.specs.Read.{headRows, offsetsRow, metaRows, listRows, Cursor, here, vectorRows}
+use Rattle.rules.specs.Decimal.{Pair}
+use Rattle.rules.specs.Write.{pairsRows}
 use Rattle.rules.specs.declared.Answer.{Answer}
 use Rattle.rules.specs.declared.Exponent.{Exponent}
 use Rattle.rules.specs.declared.Factor.{Factor}
@@ -104,6 +106,13 @@ module _ (fmt : Format) (v : ℕ) (e : Exponent) (f : Factor) where
 
   pub pair-passes : e .0 ≤ maxExponent fmt → f .0 ≤ e .0 → fine ≡ verdict (pairRows fmt v e f)
   pair-passes h k = rw (le-ltb (maxExponent fmt) (e .0) h, le-ltb (e .0) (f .0) k)
+
+-- the writer's: those of the first pair, then those of the others
+pub pairs-turn : (fmt : Format) (v : ℕ) (e : Exponent) (f : Factor) (ps : List Pair)
+    → verdict (pairsRows fmt v (record { exponent = e .0; factor = f .0 } ∷ ps)) ≡ verdict (pairRows fmt v e f then pairsRows fmt (suc v) ps)
+unfolding pairsRows
+pairs-turn fmt v e f ps =
+    sym (first-first (verdict (row 9 (in-vector v) (e .0 above maxExponent fmt))) (verdict (row 10 (in-vector v) (f .0 above e .0))) (verdict (pairsRows fmt (suc v) ps)))
 
 -- ---- 7 for metadata, 9 to 12, 7 for data: k is the metadata as the code holds it
 
