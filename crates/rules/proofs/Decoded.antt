@@ -1,4 +1,5 @@
--- What reading gives, of any vector and any bytes: how many values, and that each is of the kind's width. Assumes nothing.
+-- What reading gives, of any vector and any bytes: how many values, that each is of the kind's width, and that listed values may be put
+-- one by one. Assumes nothing.
 use mathlib.Core.Path.{_≡_, refl, sym, ap, _∙_}
 use mathlib.Core.Bool.{Bool, true, false, cond}
 use Prim.Native.Nat.{ℕ, zero, suc, _-_, _*_, _^_, _<_}
@@ -24,6 +25,8 @@ use Rattle.rules.specs.Vector.{Raw, orElse, fields, wholes, stored, mark
 use Rattle.rules.specs.Page.{sOf, countOf, vectorsOf, offsetsOf, bodyOf, rawFrom, rawsFrom, rawsOf}
 use Rattle.rules.specs.Read.{valuesOf}
 use Rattle.rules.proofs.Pages.{Cut}
+use Rattle.rules.proofs.Reading.{Rising}
+use Rattle.rules.proofs.Marks.{replaced, marked-replaced}
 use Rattle.rules.proofs.Encoded.{ceil, ceil-more}
 
 -- ---- how many
@@ -136,3 +139,10 @@ pub joined-values : (fmt : Format) (rs : List Raw) → Each (λ (r : Raw). Value
 joined-values fmt [] h = tt
 joined-values fmt (r ∷ rs) h =
     each-append (λ (v : ℕ). v < 2 ^ wordBits fmt) (decoded fmt r) (join (map (decoded fmt) rs)) (decoded-values fmt r (h .0)) (joined-values fmt rs (h .1))
+
+-- ---- as code makes them: all are brought back, then the listed ones are put one by one
+
+pub decoded-replaced : (fmt : Format) (r : Raw) → Rising (r .count) 0 (r .positions) → length (r .positions) ≡ length (r .exceptions)
+    → decoded fmt r ≡ replaced (r .positions) (r .exceptions) (map (back fmt (r .pair)) (wholes fmt r))
+unfolding decoded marked
+decoded-replaced fmt r h e = marked-replaced (back fmt (r .pair)) (wholes fmt r) (r .positions) (r .exceptions) (r .count) (wholes-count fmt r) h e

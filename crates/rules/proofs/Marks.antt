@@ -1,18 +1,21 @@
--- The lists of exceptions: what is stored for each position, and that the positions and values picked out are found again. Assumes nothing.
-use mathlib.Core.Path.{_≡_, refl, ap₂, _∙_}
+-- The lists of exceptions: what is stored for each position, that the positions and values picked out are found again, and that to put
+-- them one by one is to keep marks. Assumes nothing.
+use mathlib.Core.Path.{_≡_, refl, sym, ap, ap₂, _∙_, subst}
 use mathlib.Core.Bool.{Bool, true, false, not, cond}
-use Prim.Native.Nat.{ℕ, zero, suc, _<_, _≤_}
-use native.Mathlib.Nat.{le-refl, suc-inj}
+use Prim.Native.Nat.{ℕ, zero, suc, _+_, _<_, _≤_}
+use native.Mathlib.Nat.{le-refl, le-trans, le-suc, le-of-suc-le-suc, not-suc-le-zero, suc-inj, zero-add, add-zero, suc-add, add-suc}
 use native.Mathlib.Omega.{arith}
-use mathlib.Core.List.{List, [], _∷_, zipWith}
+use mathlib.Core.List.{List, [], _∷_, map, zipWith}
 use mathlib.Core.Option.{Option, none, some}
-use lib.ListN.{length}
+use lib.ListN.{length, getD, set, length-set, length-map}
+use lib.Seq.{getD-set-same, getD-set-other, ext-getD}
 use lib.Dec.{T, eqb, eqb→eq, eqb-refl, not-T}
-use lib.IntN.{ℤ}
 use lib.Ieee.Bits.{cond-no}
+use borrow.Author.Tests.{eqb-true, eqb-false}
 use Rattle.digits.specs.Lists.{Each}
 use Rattle.digits.proofs.Lists.{each-map}
-use Rattle.rules.specs.Vector.{places, picks, stored, marks}
+use Rattle.rules.specs.Vector.{orElse, places, picks, stored, marks}
+use Rattle.rules.proofs.Reading.{Rising}
 
 neq : (i j : ℕ) → i < j → T (not (eqb j i))
 neq i j h = not-T (eqb j i) (λ t. let e : j ≡ i = eqb→eq j i t in omega arith)
@@ -67,3 +70,68 @@ marks-back i (none ∷ ts) (v ∷ vs) e =
     (marks-skip i v (places (suc i) ts) (picks ts vs) (suc i) (length vs) (le-refl (suc i)) ∙ marks-back (suc i) ts vs (suc-inj e))
 marks-back i (some z ∷ ts) (v ∷ vs) e =
     ap₂ (λ (m : Option ℕ) (ms : List (Option ℕ)). m ∷ ms) (stored-none (places (suc i) ts) (picks ts vs) i (places-above (suc i) ts)) (marks-back (suc i) ts vs (suc-inj e))
+
+-- ---- the listed values put one by one
+
+-- vs with x put at p for each p of ps and its x of xs, in their order
+unfoldable pub replaced : List ℕ → List ℕ → List ℕ → List ℕ
+replaced [] xs vs = vs
+replaced (p ∷ ps) [] vs = vs
+replaced (p ∷ ps) (x ∷ xs) vs = replaced ps xs (set vs p x)
+
+pub length-replaced : (ps xs vs : List ℕ) → length (replaced ps xs vs) ≡ length vs
+unfolding replaced
+length-replaced [] xs vs = refl
+length-replaced (p ∷ ps) [] vs = refl
+length-replaced (p ∷ ps) (x ∷ xs) vs = length-replaced ps xs (set vs p x) ∙ length-set vs p x
+
+pub rising-below : (n low : ℕ) (ps : List ℕ) → Rising n low ps → Each (λ (p : ℕ). p < n) ps
+rising-below n low [] h = tt
+rising-below n low (p ∷ ps) h = (h .1, rising-below n (suc p) ps (h .2))
+
+rising-above : (n low i : ℕ) (ps : List ℕ) → i < low → Rising n low ps → Each (λ (p : ℕ). i < p) ps
+rising-above n low i [] h r = tt
+rising-above n low i (p ∷ ps) h r = (le-trans h (r .0), rising-above n (suc p) i ps (le-trans h (le-trans (r .0) (le-suc p))) (r .2))
+
+-- of rising positions, what is put at j is what is stored for it
+getD-replaced : (n low : ℕ) (ps xs vs : List ℕ) (j : ℕ) → Rising n low ps → n ≤ length vs → length ps ≡ length xs → getD (replaced ps xs vs) j 0 ≡ orElse (getD vs j 0) (stored ps xs j)
+unfolding replaced stored
+getD-replaced n low [] xs vs j r h e = refl
+getD-replaced n low (p ∷ ps) [] vs j r h e = absurd (omega (arith, e))
+getD-replaced n low (p ∷ ps) (x ∷ xs) vs j r h e =
+    go (getD-replaced n (suc p) ps xs (set vs p x) j (r .2) (rw (length-set vs p x) h) (suc-inj e)) (eqb j p) (eqb-true j p) (eqb-false j p)
+  where
+    go : getD (replaced ps xs (set vs p x)) j 0 ≡ orElse (getD (set vs p x) j 0) (stored ps xs j) → (b : Bool) → (b ≡ true → j ≡ p) → (b ≡ false → j ≡ p → ⊥) → getD (replaced ps xs (set vs p x)) j 0 ≡ orElse (getD vs j 0) (cond b (some x) (stored ps xs j))
+    go ih true y w =
+        let q : j ≡ p = y refl in
+        ih
+        ∙ ap₂ (λ (y : ℕ) (z : Option ℕ). orElse y z) (ap (λ (k : ℕ). getD (set vs p x) k 0) q ∙ getD-set-same vs p x 0 (le-trans (r .1) h))
+        (ap (stored ps xs) q ∙ stored-none ps xs p (rising-above n (suc p) p ps (le-refl (suc p)) (r .2)))
+    go ih false y w = ih ∙ ap (λ (y : ℕ). orElse y (stored ps xs j)) (getD-set-other vs p j x 0 (w refl))
+
+-- a list in which each marked place takes its mark, any other what b makes of its element
+module _ {A : Type 0} (b : A → ℕ) where
+  getD-marked : (zs : List A) (ps xs : List ℕ) (i n j : ℕ) → length zs ≡ n → j < n
+      → getD (zipWith (λ (z : A) (m : Option ℕ). orElse (b z) m) zs (marks ps xs i n)) j 0 ≡ orElse (getD (map b zs) j 0) (stored ps xs (i + j))
+  unfolding zipWith marks
+  getD-marked zs ps xs i zero j e h = absurd (not-suc-le-zero h)
+  getD-marked [] ps xs i (suc n) j e h = absurd (omega (arith, e))
+  getD-marked (z ∷ zs) ps xs i (suc n) zero e h = ap (λ (k : ℕ). orElse (b z) (stored ps xs k)) (sym (add-zero i))
+  getD-marked (z ∷ zs) ps xs i (suc n) (suc j) e h =
+      getD-marked zs ps xs (suc i) n j (suc-inj e) (le-of-suc-le-suc h) ∙ ap (λ (k : ℕ). orElse (getD (map b zs) j 0) (stored ps xs k)) (suc-add i j ∙ sym (add-suc i j))
+
+  length-marked : (zs : List A) (ps xs : List ℕ) (i n : ℕ) → length zs ≡ n → length (zipWith (λ (z : A) (m : Option ℕ). orElse (b z) m) zs (marks ps xs i n)) ≡ n
+  unfolding zipWith marks
+  length-marked [] ps xs i n e = e
+  length-marked (z ∷ zs) ps xs i zero e = absurd (omega (arith, e))
+  length-marked (z ∷ zs) ps xs i (suc n) e = ap suc (length-marked zs ps xs (suc i) n (suc-inj e))
+
+  -- to keep marks is to put the listed values one by one
+  pub marked-replaced : (zs : List A) (ps xs : List ℕ) (n : ℕ) → length zs ≡ n → Rising n 0 ps → length ps ≡ length xs
+      → zipWith (λ (z : A) (m : Option ℕ). orElse (b z) m) zs (marks ps xs 0 n) ≡ replaced ps xs (map b zs)
+  marked-replaced zs ps xs n e r l =
+      ext-getD 0 _ _ (length-marked zs ps xs 0 n e ∙ sym (length-replaced ps xs (map b zs) ∙ length-map zs b ∙ e))
+      (λ j h.
+      getD-marked zs ps xs 0 n j e (subst (λ (k : ℕ). j < k) (length-marked zs ps xs 0 n e) h)
+      ∙ ap (λ (k : ℕ). orElse (getD (map b zs) j 0) (stored ps xs k)) (zero-add j)
+      ∙ sym (getD-replaced n 0 ps xs (map b zs) j r (omega (arith, length-map zs b, e)) l))
