@@ -12,7 +12,7 @@ use Rattle.rules.specs.Kind.{minS, maxS, maxValues, metaBytes, maxExpone
 use Rattle.rules.specs.Vector.{Raw}
 use Rattle.rules.specs.Page.{Meta, metaOf, vectorBytes, vectorSize, sizeOf, starts, bodies, header, layout, vectors, rawFrom, versionOf, modeOf, encodingOf, sOf, countOf, vectorsOf, offsetsOf, bodyOf}
 use Rattle.rules.specs.Verdict.{fine, verdict, row, the-page, in-vector, in-vector-at, _below_, _above_, _isnt_}
-use Rattle.rules.specs.Read.{headRows, offsetsRow, metaRows, Listed, positionsRows, listRows, Cursor, here, start, vectorRows, vectorsRows, pageRows}
+use Rattle.rules.specs.Read.{headRows, offsetsRow, metaRows, Listed, positionsRows, listRows, Cursor, here, start, vectorRows, vectorsRows, pageRows, readRows}
 use Rattle.rules.proofs.Rows.{row-passes, row-fine, row-first, first-passes, first-fine, is, isnt-false, neither, or-false}
 use Rattle.rules.proofs.Pages.{Fit, Cut, length-vector, length-layout, front-meta, front-raw, front-drop, s-back, count-back, offsets-back, body-back}
 
@@ -240,3 +240,10 @@ page-fine fmt bs ok =
     let a = first-fine (verdict (headRows bs)) _ ok in
     let b = first-fine (verdict (offsetsRow bs)) _ (a .1) in
     (head-fine bs (a .0) (b .0), b .1)
+
+-- what the reader's rows show, 15 included
+pub read-fine : (fmt : Format) (room : ℕ) (bs : List ℕ) → verdict (readRows fmt room bs) ≡ fine → (verdict (pageRows fmt bs) ≡ fine) × (countOf bs ≤ room)
+unfolding readRows
+read-fine fmt room bs ok =
+    let a = first-fine (verdict (pageRows fmt bs)) _ ok in
+    (a .0, ltb-false room (countOf bs) (row-fine 15 the-page (room below countOf bs) (a .1)))

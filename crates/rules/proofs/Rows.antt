@@ -39,6 +39,11 @@ pub first-first : (x y z : Verdict) → first (first x y) z ≡ first x (first y
 first-first fine y z = refl
 first-first (refuse a p) y z = refl
 
+-- what follows a refusal is of no account
+pub first-as : (x y z : Verdict) → (x ≡ fine → y ≡ z) → first x y ≡ first x z
+first-as fine y z e = e refl
+first-as (refuse a p) y z e = refl
+
 -- ---- conditions
 
 pub is : (a b : ℕ) → a ≡ b → (a isnt b) ≡ false
