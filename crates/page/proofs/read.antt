@@ -1,0 +1,3 @@
+-- What the proofs of the reader cite.
+pub mod Turns
+pub mod Answers

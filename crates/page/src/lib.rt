@@ -1,0 +1,2 @@
+// The public calls, both kinds.
+pub mod read; // read.rt: the reader
