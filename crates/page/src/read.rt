@@ -21,7 +21,7 @@ ghost use lib.ListN.{length};
 ghost use lib.Ieee.{binary32, binary64};
 ghost use Rattle.digits.specs.Lists.{over};
 ghost use Rattle.rules.specs.Page.{countOf};
-ghost use Rattle.rules.specs.Verdict.{row, fine, verdict, the-page, _below_};
+ghost use Rattle.rules.specs.Verdict.{row, fine, verdict, the-page, _below_, done-with};
 ghost use Rattle.rules.specs.Read.{readRows, valuesOf};
 ghost use Rattle.rules.specs.Calls.{Read};
 ghost use Rattle.checks.specs.Forms.{formatOf, asVerdict};
@@ -47,6 +47,19 @@ fn check_read(page: &[u8], kind: Kind, room: usize) -> Check
     let laid = check_page(page, kind);
     let fits = check_room(page, room);
     first_of(laid, fits)
+}
+
+// Done: the place is the count of values.
+fn done(page: &[u8]) -> Answer
+    requires { ⌜ 8 ≤ length (now page) ⌝ }
+    ensures { λ r. ⌜ r ≡ done-with (countOf (now (page .entry))) ⌝ }
+{
+    let count = count_of(page);
+    Answer {
+        number: 0,
+        vector: 0,
+        place: count as u64,
+    }
 }
 
 // Each vector in turn, to the front of the output; what lies past the count of values stays.
@@ -109,12 +122,7 @@ pub fn read64(page: &[u8], out: &mut [u64]) -> Answer
         Check::Fine => {}
     }
     read_vectors64(page, out);
-    let count = count_of(page);
-    Answer {
-        number: 0,
-        vector: 0,
-        place: count as u64,
-    }
+    done(page)
 }
 
 // The same of 32-bit floats.
@@ -128,10 +136,5 @@ pub fn read32(page: &[u8], out: &mut [u32]) -> Answer
         Check::Fine => {}
     }
     read_vectors32(page, out);
-    let count = count_of(page);
-    Answer {
-        number: 0,
-        vector: 0,
-        place: count as u64,
-    }
+    done(page)
 }

@@ -51,11 +51,10 @@ module _ (fmt : Format) (bs out : List ℕ) (r : Check) (e : asVerdict r ≡ ver
     pub reader-passes : verdict (readRows fmt (length out) bs) ≡ fine
     reader-passes = sym e ∙ ap asVerdict f
 
-    pub reader-done : (count : ℕ) (end : List ℕ) → count ≡ countOf bs → end ≡ over (valuesOf fmt bs) out → Read fmt bs out (done-with count) end
+    pub reader-done : (a : Answer) (end : List ℕ) → a ≡ done-with (countOf bs) → end ≡ over (valuesOf fmt bs) out → Read fmt bs out a end
     unfolding readOf
-    reader-done count end ec ee =
-        let many : count ≡ length (valuesOf fmt bs) = ec ∙ sym (values-count fmt bs) in
+    reader-done a end ea ee =
         record {
-          answer-is = ap done-with many ∙ sym (ap (λ (x : Verdict). answer (settle x (valuesOf fmt bs))) reader-passes);
+          answer-is = ea ∙ ap done-with (sym (values-count fmt bs)) ∙ sym (ap (λ (x : Verdict). answer (settle x (valuesOf fmt bs))) reader-passes);
           output-is = ee ∙ sym (ap (λ (x : Verdict). after (settle x (valuesOf fmt bs)) out) reader-passes);
         }

@@ -9,7 +9,7 @@ use Rattle.page.proofs.read.read32.Statement.{statement}
 use Rattle.page.proofs.read.read32.Tie as tie
 use Rattle.page.proofs.read.read32.Reads as reads
 use Rattle.page.proofs.read.read32.Lts as lts
-use Rattle.checks.proofs.head.count_of.Reads as count-of-reads
+use Rattle.page.proofs.read.done.Reads as done-reads
 use Rattle.page.proofs.read.check_read.Reads as check-read-reads
 use Rattle.page.proofs.read.read_vectors32.Reads as read-vectors32-reads
 
@@ -32,8 +32,8 @@ read-vectors32-requires c κs =
     let a = c .before .before .before .before .before .before .args in
     reader-passes binary32 (now (a .page)) (now (a .out)) (c .before .before .before .check-read .result) (c .before .before .before .check-read .ensures) (c .before .enum-told .given .1)
 
-count-of-requires : tie.Need-count-of-requires
-count-of-requires c κs =
+done-requires : tie.Need-done-requires
+done-requires c κs =
     let a = c .before .before .before .before .before .before .before .before .before .args in
     reader-head binary32 (length (now (a .out))) (now (a .page)) (reader-passes binary32 (now (a .page)) (now (a .out)) (c .before .before .before .before .before .before .check-read .result) (c .before .before .before .before .before .before .check-read .ensures) (c .before .before .before .before .enum-told .given .1)) .eight
 
@@ -43,7 +43,7 @@ same-length c = search needs
 returns-2 : tie.Need-returns-2
 returns-2 c =
     let a = c .before .before .before .before .before .before .before .before .before .before .args in
-    reader-done binary32 (now (a .page)) (now (a .out)) (c .before .before .before .before .before .before .before .check-read .result) (c .before .before .before .before .before .before .before .check-read .ensures) (c .before .before .before .before .before .enum-told .given .1) (c .count-of .result) _ (c .count-of .ensures .0) (c .before .before .before .read-vectors32 .ensures)
+    reader-done binary32 (now (a .page)) (now (a .out)) (c .before .before .before .before .before .before .before .check-read .result) (c .before .before .before .before .before .before .before .check-read .ensures) (c .before .before .before .before .before .enum-told .given .1) (c .done .result) _ (c .done .ensures) (c .before .before .before .read-vectors32 .ensures)
 
 pub read32-spec : {M : Type 1} → statement M
 read32-spec =
@@ -54,6 +54,6 @@ read32-spec =
     returns
     enum-told
     read-vectors32-requires
-    count-of-requires
+    done-requires
     same-length
     returns-2)
