@@ -10,7 +10,7 @@ use mathlib.Core.Option.{Option, none, some}
 use lib.ListN.{length, take, drop, length-map, take-append-drop, length-take, length-drop}
 use lib.IntN.{ℤ, natAbs, _-ℤ_}
 use lib.Ieee.{Format, binary32, binary64}
-use lib.Pow.{pow-pos}
+use lib.Pow.{pow-pos, pow-mono}
 use mir.Val.{hbits}
 use mir.Facts.{fits-ofZ, fits-lt-pow}
 use Rattle.digits.specs.Lists.{Each, join}
@@ -20,13 +20,13 @@ use Rattle.digits.proofs.Pack.{length-pack}
 use Rattle.rules.specs.Kind.{word, wordBytes, wordBits, metaBytes, maxS, Values}
 use Rattle.rules.specs.Decimal.{Pair, tried}
 use Rattle.rules.specs.Vector.{Raw, tries, standIn, filled, orElse, least, fieldsOf, widthOf, places, picks, rawOf, encoded, decoded}
-use Rattle.rules.specs.Page.{sizeOf, starts, encodedAll}
-use Rattle.rules.specs.Write.{Allowed}
+use Rattle.rules.specs.Page.{vectors, sizeOf, starts, encodedAll, pageOf}
+use Rattle.rules.specs.Write.{Allowed, Inside, bound}
 use Rattle.rules.proofs.Order.{AtMost, least-below, least-one, width-fewest}
 use Rattle.rules.proofs.Fields.{field-lt}
 use Rattle.rules.proofs.Tries.{Held}
 use Rattle.rules.proofs.Vectors.{filled-held, length-fields, vector-back}
-use Rattle.rules.proofs.Pages.{Fit, Cut, total}
+use Rattle.rules.proofs.Pages.{Fit, Cut, total, length-layout}
 use Rattle.rules.proofs.Reading.{Sound, Rising}
 
 -- ---- the lists of exceptions
@@ -224,3 +224,18 @@ pub starts-below : (fmt : Format) (at c : ℕ) (rs : List Raw) → at + total fm
 unfolding starts
 starts-below fmt at c [] h = tt
 starts-below fmt at c (r ∷ rs) h = (omega arith, starts-below fmt (at + sizeOf fmt r) c rs (omega arith))
+
+-- a page of settings inside the limits is no longer than the bound
+module _ (fmt : Format) (s : ℕ) (ps : List Pair) (vs : List ℕ) (i : Inside fmt s ps (length vs)) (ok : Values fmt vs) where
+  pub page-fits : length (pageOf fmt s ps vs) ≤ bound fmt s (length vs)
+  unfolding pageOf bound ceil
+  page-fits =
+      let rs : List Raw = encodedAll fmt (2 ^ s) ps vs in
+      let small : 2 ^ s ≤ 2 ^ maxS = pow-mono (i .high) in
+      let cut : Cut (2 ^ s) (length vs) rs = all-cut fmt (2 ^ s) small ps vs ok (covers (2 ^ s) (length vs) ps (pow-pos s) (i .one-each)) in
+      let count : vectors s (length vs) ≡ length rs = sym (length-all fmt (2 ^ s) small ps vs ∙ i .one-each) in
+      let t = total-bound fmt (2 ^ s) (length vs) rs cut (all-sound fmt (2 ^ s) small ps vs (i .allowed) ok) in
+      rw (length-layout fmt s (length vs) rs (all-fit fmt (2 ^ s) small ps vs ok), count) (room (length rs) (total fmt rs) (metaBytes fmt) (length vs * (2 * wordBytes fmt + 2)) t)
+    where
+      room : (l t m n : ℕ) → t ≤ l * m + n → 8 + (4 * l + t) ≤ 8 + l * (4 + m) + n
+      room l t m n h = omega arith

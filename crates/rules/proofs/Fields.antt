@@ -1,7 +1,7 @@
 -- Frame plus field gives the whole number back, and a field is its whole number less the frame: once over the machine width. Assumes nothing.
 use mathlib.Core.Path.{_≡_, refl, ap, _∙_}
 use Prim.Native.Nat.{ℕ, zero, suc, _+_, _-_, _*_, _%_, _^_, _<_, _≤_}
-use native.Mathlib.Nat.{mod-eq-of-lt, add-mul-mod-self-left, mod-eq-sub-mod, lt-of-not-le, mod-lt}
+use native.Mathlib.Nat.{le-trans, mod-eq-of-lt, add-mul-mod-self-left, mod-eq-sub-mod, lt-of-not-le, mod-lt}
 use native.Mathlib.Omega.{arith}
 use lib.Dec.{T, ltb, leb→le}
 use lib.Arith.{le→nltb}
@@ -57,6 +57,24 @@ field-lt w (negsuc b) (negsuc a) t hm hz =
     let l : a ≤ b = leb→le a b t in
     let d = double w in
     rw (sub-abs (suc b) (suc a) (omega arith)) (omega arith)
+
+-- a larger whole number has a larger field
+pub field-mono : (m a b : ℤ) → T (leZ m a) → T (leZ a b) → natAbs (a -ℤ m) ≤ natAbs (b -ℤ m)
+field-mono (pos m) (pos a) (pos b) h k =
+    let x : m ≤ a = leb→le m a h in
+    let y : a ≤ b = leb→le a b k in
+    rw (natAbs-minus a m x, natAbs-minus b m (le-trans x y)) (omega arith)
+field-mono (pos m) (pos a) (negsuc b) h k = absurd k
+field-mono (pos m) (negsuc a) b h k = absurd h
+field-mono (negsuc m) (pos a) (pos b) h k = let y = leb→le a b k in omega arith
+field-mono (negsuc m) (pos a) (negsuc b) h k = absurd k
+field-mono (negsuc m) (negsuc a) (pos b) h k =
+    let x = leb→le a m h in
+    rw (sub-abs (suc m) (suc a) (omega arith)) (omega arith)
+field-mono (negsuc m) (negsuc a) (negsuc b) h k =
+    let x = leb→le a m h in
+    let y = leb→le b a k in
+    rw (sub-abs (suc m) (suc a) (omega arith), sub-abs (suc m) (suc b) (omega arith)) (omega arith)
 
 -- the other way: a field is the whole number that it gives, less the frame
 mod-lap : (a n : ℕ) → n ≤ a → a < n * 2 → a % n ≡ a - n

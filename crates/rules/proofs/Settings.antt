@@ -1,10 +1,12 @@
 -- The writer's settings: its rows 5, 6, 16, 9 and 10 mean exactly "outside the limits"; and pairs as bytes. Assumes nothing.
-use mathlib.Core.Path.{_≡_, refl, ap}
+use mathlib.Core.Path.{_≡_, refl, sym, ap, ap₂, _∙_}
 use mathlib.Core.Bool.{_||_}
-use Prim.Native.Nat.{ℕ, zero, suc, _*_}
+use Prim.Native.Nat.{ℕ, zero, suc, _+_, _*_, _≤_, _<_}
+use native.Mathlib.Numerals.{add-one}
 use native.Mathlib.Omega.{arith}
 use mathlib.Core.List.{List, [], _∷_}
-use lib.ListN.{length}
+use lib.ListN.{length, getD, drop, length-drop}
+use lib.Seq.{drop-cons}
 use lib.Ieee.{Format}
 use borrow.Author.Tests.{ltb-false, le-ltb}
 use Rattle.digits.specs.Lists.{Each}
@@ -41,6 +43,24 @@ bytes-back [] n e = refl
 bytes-back (e ∷ []) n q = absurd (omega (arith, q))
 bytes-back (e ∷ f ∷ bs) zero q = absurd (omega (arith, q))
 bytes-back (e ∷ f ∷ bs) (suc n) q = ap (λ (x : List ℕ). e ∷ f ∷ x) (bytes-back bs n (omega (arith, q)))
+
+-- the pair at byte j, and those behind it
+pub pairs-next : (bs : List ℕ) (j : ℕ) → j + 1 < length bs → pairsOf (drop j bs) ≡ record { exponent = getD bs j 0; factor = getD bs (j + 1) 0 } ∷ pairsOf (drop (j + 2) bs)
+unfolding pairsOf
+pairs-next bs j h =
+    let two : drop j bs ≡ getD bs j 0 ∷ getD bs (suc j) 0 ∷ drop (suc (suc j)) bs = drop-cons bs j 0 (omega arith) ∙ ap (λ (l : List ℕ). getD bs j 0 ∷ l) (drop-cons bs (suc j) 0 (omega arith)) in
+    let e : suc (suc j) ≡ j + 2 = omega arith in
+    ap pairsOf two ∙ ap₂ (λ (x y : ℕ). record { exponent = getD bs j 0; factor = getD bs x 0 } ∷ pairsOf (drop y bs)) (sym (add-one j)) e
+
+-- less than two bytes are no pair
+pub pairs-none : (bs : List ℕ) (j : ℕ) → length bs ≤ j + 1 → pairsOf (drop j bs) ≡ []
+unfolding pairsOf
+pairs-none bs j h = short (drop j bs) (rw length-drop (omega arith))
+  where
+    short : (l : List ℕ) → length l ≤ 1 → pairsOf l ≡ []
+    short [] k = refl
+    short (x ∷ []) k = refl
+    short (x ∷ y ∷ l) k = absurd (omega arith)
 
 -- ---- the rows
 

@@ -17,9 +17,9 @@ use Rattle.rules.specs.Page.{starts, vectors, encodedAll, pageOf, rawsOf, sOf, 
 use Rattle.rules.specs.Verdict.{fine, verdict, done}
 use Rattle.rules.specs.Read.{pageRows, valuesOf, readRows, readOf}
 use Rattle.rules.specs.Write.{Inside, bound}
-use Rattle.rules.proofs.Pages.{Fit, Cut, total, length-layout, page-back, count-back, s-back}
+use Rattle.rules.proofs.Pages.{Fit, Cut, total, page-back, count-back, s-back}
 use Rattle.rules.proofs.Reading.{Sound, page-passes}
-use Rattle.rules.proofs.Encoded.{Covers, ceil, covers, length-all, all-cut, all-fit, all-sound, all-back, total-bound, starts-below}
+use Rattle.rules.proofs.Encoded.{Covers, ceil, covers, length-all, all-cut, all-fit, all-sound, all-back, total-bound, starts-below, page-fits}
 
 pub page-small : (fmt : Format) (l n t : ℕ) → l ≤ maxValues → n ≤ maxValues → t ≤ l * metaBytes fmt + n * (2 * wordBytes fmt + 2) → 4 * l + t < 256 ^ 4
 page-small binary32 l n t h k g = omega arith
@@ -80,13 +80,7 @@ module _ (fmt : Format) (s : ℕ) (ps : List Pair) (vs : List ℕ) (i : Inside f
   counted = count-back fmt s (length vs) rs n-small
 
   pub written-length : length (pageOf fmt s ps vs) ≤ bound fmt s (length vs)
-  unfolding pageOf bound
-  written-length =
-      let t = total-bound fmt (2 ^ s) (length vs) rs cut sound in
-      rw (length-layout fmt s (length vs) rs fit, count) (room (length rs) (total fmt rs) (metaBytes fmt) (length vs * (2 * wordBytes fmt + 2)) t)
-    where
-      room : (l t m n : ℕ) → t ≤ l * m + n → 8 + (4 * l + t) ≤ 8 + l * (4 + m) + n
-      room l t m n h = omega arith
+  written-length = page-fits fmt s ps vs i ok
 
   -- given room, what was written is read
   pub round-trip : (room : ℕ) → length vs ≤ room → readOf fmt room (pageOf fmt s ps vs) ≡ done vs
