@@ -1,0 +1,2 @@
+pub mod Vectors
+pub mod Seen
