@@ -292,7 +292,7 @@ pub fn packed_end32(seen: Seen32) -> usize
 }
 
 // Where the vector ends, which is its size: an exception takes 2 bytes and its word.
-pub fn size_of64(seen: Seen64) -> usize
+pub fn vector_size64(seen: Seen64) -> usize
     requires { ⌜ Kept (asSeen64 seen) ⌝ }
     ensures { λ r. ⌜ r ≡ sizeSeen binary64 (asSeen64 seen) ⌝ }
 {
@@ -301,7 +301,7 @@ pub fn size_of64(seen: Seen64) -> usize
     from + listed * 10
 }
 
-pub fn size_of32(seen: Seen32) -> usize
+pub fn vector_size32(seen: Seen32) -> usize
     requires { ⌜ Kept (asSeen32 seen) ⌝ }
     ensures { λ r. ⌜ r ≡ sizeSeen binary32 (asSeen32 seen) ⌝ }
 {

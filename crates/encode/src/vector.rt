@@ -7,8 +7,8 @@ use crate::scan::packed_end32;
 use crate::scan::packed_end64;
 use crate::scan::scan32;
 use crate::scan::scan64;
-use crate::scan::size_of32;
-use crate::scan::size_of64;
+use crate::scan::vector_size32;
+use crate::scan::vector_size64;
 use crate::scan::width_of32;
 use crate::scan::width_of64;
 use bits::fields::clear;
@@ -158,7 +158,7 @@ pub fn write_vector64(values: &[u64], scale: Scale64, out: &mut [u8]) -> usize
     );
     let at = packed_end64(seen);
     pack64(values, scale, seen, width as usize, &mut out[13..at]);
-    let end = size_of64(seen);
+    let end = vector_size64(seen);
     put_exceptions64(values, scale, listed, &mut out[at..end]);
     end
 }
@@ -182,7 +182,7 @@ pub fn write_vector32(values: &[u32], scale: Scale32, out: &mut [u8]) -> usize
     );
     let at = packed_end32(seen);
     pack32(values, scale, seen, width as usize, &mut out[9..at]);
-    let end = size_of32(seen);
+    let end = vector_size32(seen);
     put_exceptions32(values, scale, listed, &mut out[at..end]);
     end
 }

@@ -25,7 +25,7 @@ use Rattle.decimal.proofs.signed.to_word32.Reads as to-word32-reads
 use Rattle.encode.proofs.lists.put_exceptions32.Reads as put-exceptions32-reads
 use Rattle.encode.proofs.scan.packed_end32.Reads as packed-end32-reads
 use Rattle.encode.proofs.scan.scan32.Reads as scan32-reads
-use Rattle.encode.proofs.scan.size_of32.Reads as size-of32-reads
+use Rattle.encode.proofs.scan.vector_size32.Reads as vector-size32-reads
 use Rattle.encode.proofs.scan.width_of32.Reads as width-of32-reads
 use Rattle.encode.proofs.vector.pack32.Reads as pack32-reads
 use Rattle.encode.proofs.vector.put_meta32.Reads as put-meta32-reads
@@ -115,8 +115,8 @@ pack32-requires c κs =
       packed-room binary32 (Q s) (Vs s) (S k) (k .scan32 .ensures) (D s) (s .pre .2) (c .before .packed-end32 .result) (c .before .packed-end32 .ensures .0) (O1 (c .before .before .before .before)) (meta-is (c .before .before .before .before)) ∙ ap (packedSize (length (Vs s))) (sym (w .ensures .0)),
     )
 
-size-of32-requires : tie.Need-size-of32-requires
-size-of32-requires c κs = kept (c .before .before .before .before .before .before .before .before .before .before .before .before)
+vector-size32-requires : tie.Need-vector-size32-requires
+vector-size32-requires c κs = kept (c .before .before .before .before .before .before .before .before .before .before .before .before)
 
 sub-put-exceptions32 : tie.Need-sub-put-exceptions32
 sub-put-exceptions32 c = search needs
@@ -128,7 +128,7 @@ part-put-exceptions32-end : tie.Need-part-put-exceptions32-end
 part-put-exceptions32-end c =
     let s = c .before .before .before .before .before .before .before .before .before .before .before .before .before .before .before .before in
     let k = c .before .before .before .before .before .before .before .before .before .before .before .before .before in
-    lists-end binary32 (Q s) (Vs s) (S k) (k .scan32 .ensures) (D s) (s .pre .2) (c .before .before .before .before .before .packed-end32 .result) (c .before .before .before .before .before .packed-end32 .ensures .0) (c .size-of32 .result) (c .size-of32 .ensures) (O2 (c .before .before .before)) (packed-is (c .before .before .before))
+    lists-end binary32 (Q s) (Vs s) (S k) (k .scan32 .ensures) (D s) (s .pre .2) (c .before .before .before .before .before .packed-end32 .result) (c .before .before .before .before .before .packed-end32 .ensures .0) (c .vector-size32 .result) (c .vector-size32 .ensures) (O2 (c .before .before .before)) (packed-is (c .before .before .before))
 
 put-exceptions32-requires : tie.Need-put-exceptions32-requires
 put-exceptions32-requires c κs =
@@ -137,7 +137,7 @@ put-exceptions32-requires c κs =
       s .pre .0,
       s .pre .1,
       listed-is binary32 (Q s) (Vs s) (S k) (k .scan32 .ensures),
-      lists-room binary32 (Q s) (Vs s) (S k) (k .scan32 .ensures) (D s) (s .pre .2) (c .before .before .before .before .before .before .packed-end32 .result) (c .before .before .before .before .before .before .packed-end32 .ensures .0) (c .before .size-of32 .result) (c .before .size-of32 .ensures) (O2 (c .before .before .before .before)) (packed-is (c .before .before .before .before)),
+      lists-room binary32 (Q s) (Vs s) (S k) (k .scan32 .ensures) (D s) (s .pre .2) (c .before .before .before .before .before .before .packed-end32 .result) (c .before .before .before .before .before .before .packed-end32 .ensures .0) (c .before .vector-size32 .result) (c .before .vector-size32 .ensures) (O2 (c .before .before .before .before)) (packed-is (c .before .before .before .before)),
     )
 
 same-length : tie.Need-same-length
@@ -148,8 +148,8 @@ returns c =
     let s = c .before .before .before .before .before .before .before .before .before .before .before .before .before .before .before .before .before .before .before .before in
     let k = c .before .before .before .before .before .before .before .before .before .before .before .before .before .before .before .before .before in
     let u = c .before .before .put-exceptions32 in (
-      c .before .before .before .before .size-of32 .ensures ∙ vector-long binary32 (Q s) (Vs s) (S k) (k .scan32 .ensures),
-      vector-put binary32 (Q s) (Vs s) (S k) (k .scan32 .ensures) (D s) (s .pre .2) (c .before .before .before .before .before .before .before .before .before .packed-end32 .result) (c .before .before .before .before .before .before .before .before .before .packed-end32 .ensures .0) (c .before .before .before .before .size-of32 .result) (c .before .before .before .before .size-of32 .ensures) (O2 (c .before .before .before .before .before .before .before)) (packed-is (c .before .before .before .before .before .before .before)) (u .last .1 .1 .1 .0) (u .ensures),
+      c .before .before .before .before .vector-size32 .ensures ∙ vector-long binary32 (Q s) (Vs s) (S k) (k .scan32 .ensures),
+      vector-put binary32 (Q s) (Vs s) (S k) (k .scan32 .ensures) (D s) (s .pre .2) (c .before .before .before .before .before .before .before .before .before .packed-end32 .result) (c .before .before .before .before .before .before .before .before .before .packed-end32 .ensures .0) (c .before .before .before .before .vector-size32 .result) (c .before .before .before .before .vector-size32 .ensures) (O2 (c .before .before .before .before .before .before .before)) (packed-is (c .before .before .before .before .before .before .before)) (u .last .1 .1 .1 .0) (u .ensures),
     )
 
 pub write-vector32-spec : {M : Type 1} → statement M
@@ -167,7 +167,7 @@ write-vector32-spec =
     part-pack32-start
     part-pack32-end
     pack32-requires
-    size-of32-requires
+    vector-size32-requires
     sub-put-exceptions32
     part-put-exceptions32-start
     part-put-exceptions32-end

@@ -25,7 +25,7 @@ use Rattle.decimal.proofs.signed.to_word64.Reads as to-word64-reads
 use Rattle.encode.proofs.lists.put_exceptions64.Reads as put-exceptions64-reads
 use Rattle.encode.proofs.scan.packed_end64.Reads as packed-end64-reads
 use Rattle.encode.proofs.scan.scan64.Reads as scan64-reads
-use Rattle.encode.proofs.scan.size_of64.Reads as size-of64-reads
+use Rattle.encode.proofs.scan.vector_size64.Reads as vector-size64-reads
 use Rattle.encode.proofs.scan.width_of64.Reads as width-of64-reads
 use Rattle.encode.proofs.vector.pack64.Reads as pack64-reads
 use Rattle.encode.proofs.vector.put_meta64.Reads as put-meta64-reads
@@ -115,8 +115,8 @@ pack64-requires c κs =
       packed-room binary64 (Q s) (Vs s) (S k) (k .scan64 .ensures) (D s) (s .pre .2) (c .before .packed-end64 .result) (c .before .packed-end64 .ensures .0) (O1 (c .before .before .before .before)) (meta-is (c .before .before .before .before)) ∙ ap (packedSize (length (Vs s))) (sym (w .ensures .0)),
     )
 
-size-of64-requires : tie.Need-size-of64-requires
-size-of64-requires c κs = kept (c .before .before .before .before .before .before .before .before .before .before .before .before)
+vector-size64-requires : tie.Need-vector-size64-requires
+vector-size64-requires c κs = kept (c .before .before .before .before .before .before .before .before .before .before .before .before)
 
 sub-put-exceptions64 : tie.Need-sub-put-exceptions64
 sub-put-exceptions64 c = search needs
@@ -128,7 +128,7 @@ part-put-exceptions64-end : tie.Need-part-put-exceptions64-end
 part-put-exceptions64-end c =
     let s = c .before .before .before .before .before .before .before .before .before .before .before .before .before .before .before .before in
     let k = c .before .before .before .before .before .before .before .before .before .before .before .before .before in
-    lists-end binary64 (Q s) (Vs s) (S k) (k .scan64 .ensures) (D s) (s .pre .2) (c .before .before .before .before .before .packed-end64 .result) (c .before .before .before .before .before .packed-end64 .ensures .0) (c .size-of64 .result) (c .size-of64 .ensures) (O2 (c .before .before .before)) (packed-is (c .before .before .before))
+    lists-end binary64 (Q s) (Vs s) (S k) (k .scan64 .ensures) (D s) (s .pre .2) (c .before .before .before .before .before .packed-end64 .result) (c .before .before .before .before .before .packed-end64 .ensures .0) (c .vector-size64 .result) (c .vector-size64 .ensures) (O2 (c .before .before .before)) (packed-is (c .before .before .before))
 
 put-exceptions64-requires : tie.Need-put-exceptions64-requires
 put-exceptions64-requires c κs =
@@ -137,7 +137,7 @@ put-exceptions64-requires c κs =
       s .pre .0,
       s .pre .1,
       listed-is binary64 (Q s) (Vs s) (S k) (k .scan64 .ensures),
-      lists-room binary64 (Q s) (Vs s) (S k) (k .scan64 .ensures) (D s) (s .pre .2) (c .before .before .before .before .before .before .packed-end64 .result) (c .before .before .before .before .before .before .packed-end64 .ensures .0) (c .before .size-of64 .result) (c .before .size-of64 .ensures) (O2 (c .before .before .before .before)) (packed-is (c .before .before .before .before)),
+      lists-room binary64 (Q s) (Vs s) (S k) (k .scan64 .ensures) (D s) (s .pre .2) (c .before .before .before .before .before .before .packed-end64 .result) (c .before .before .before .before .before .before .packed-end64 .ensures .0) (c .before .vector-size64 .result) (c .before .vector-size64 .ensures) (O2 (c .before .before .before .before)) (packed-is (c .before .before .before .before)),
     )
 
 same-length : tie.Need-same-length
@@ -148,8 +148,8 @@ returns c =
     let s = c .before .before .before .before .before .before .before .before .before .before .before .before .before .before .before .before .before .before .before .before in
     let k = c .before .before .before .before .before .before .before .before .before .before .before .before .before .before .before .before .before in
     let u = c .before .before .put-exceptions64 in (
-      c .before .before .before .before .size-of64 .ensures ∙ vector-long binary64 (Q s) (Vs s) (S k) (k .scan64 .ensures),
-      vector-put binary64 (Q s) (Vs s) (S k) (k .scan64 .ensures) (D s) (s .pre .2) (c .before .before .before .before .before .before .before .before .before .packed-end64 .result) (c .before .before .before .before .before .before .before .before .before .packed-end64 .ensures .0) (c .before .before .before .before .size-of64 .result) (c .before .before .before .before .size-of64 .ensures) (O2 (c .before .before .before .before .before .before .before)) (packed-is (c .before .before .before .before .before .before .before)) (u .last .1 .1 .1 .0) (u .ensures),
+      c .before .before .before .before .vector-size64 .ensures ∙ vector-long binary64 (Q s) (Vs s) (S k) (k .scan64 .ensures),
+      vector-put binary64 (Q s) (Vs s) (S k) (k .scan64 .ensures) (D s) (s .pre .2) (c .before .before .before .before .before .before .before .before .before .packed-end64 .result) (c .before .before .before .before .before .before .before .before .before .packed-end64 .ensures .0) (c .before .before .before .before .vector-size64 .result) (c .before .before .before .before .vector-size64 .ensures) (O2 (c .before .before .before .before .before .before .before)) (packed-is (c .before .before .before .before .before .before .before)) (u .last .1 .1 .1 .0) (u .ensures),
     )
 
 pub write-vector64-spec : {M : Type 1} → statement M
@@ -167,7 +167,7 @@ write-vector64-spec =
     part-pack64-start
     part-pack64-end
     pack64-requires
-    size-of64-requires
+    vector-size64-requires
     sub-put-exceptions64
     part-put-exceptions64-start
     part-put-exceptions64-end

@@ -23,9 +23,9 @@ enum-known-checked c = search needs
 
 returns : tie.Need-returns
 returns c =
-    let a = c .before .before .before .before .before .before .before .args in
-    let r = c .before .before .before .check-write in
-    written-refused binary32 (a .s) (now (a .pairs)) (now (a .values)) (now (a .out)) _ (sym (ap asVerdict (c .before .checked .given .1)) ∙ r .ensures (now (a .values)) refl)
+    let lent = c .before .before .before .before .before .before .before .args in
+    let checked = c .before .before .before .check-write in
+    written-refused binary32 (lent .s) (now (lent .pairs)) (now (lent .values)) (now (lent .out)) _ (sym (ap asVerdict (c .before .checked .given .1)) ∙ checked .ensures (now (lent .values)) refl)
 
 enum-told : tie.Need-enum-told
 enum-told c = search needs
