@@ -12,7 +12,6 @@ use decimal::whole::whole64;
 ghost use mathlib.Core.Path.{_≡_};
 ghost use Prim.Native.Nat.{_+_, _^_, _≤_};
 ghost use lib.ListN.{length};
-ghost use lib.IntN.{ℤ, pos, negsuc};
 ghost use lib.Ieee.{binary32, binary64};
 ghost use Rattle.rules.specs.Vector.{tries, standIn, lesser};
 ghost use Rattle.decimal.specs.Scale.{pair32, pair64, Scales32, Scales64};

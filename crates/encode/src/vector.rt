@@ -31,7 +31,6 @@ use rules::Factor;
 ghost use mathlib.Core.Path.{_≡_};
 ghost use Prim.Native.Nat.{_≤_};
 ghost use lib.ListN.{length};
-ghost use lib.IntN.{ℤ, pos, negsuc};
 ghost use lib.Ieee.{binary32, binary64};
 ghost use Rattle.digits.specs.Digits.{pack, packedSize};
 ghost use Rattle.digits.specs.Lists.{over};

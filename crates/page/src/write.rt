@@ -27,7 +27,7 @@ ghost use lib.ListN.{length};
 ghost use lib.Ieee.{binary32, binary64};
 ghost use Rattle.digits.specs.Digits.{le};
 ghost use Rattle.digits.specs.Lists.{over, putAt};
-ghost use Rattle.rules.specs.Kind.{minS, maxS, maxValues};
+ghost use Rattle.rules.specs.Kind.{maxS, maxValues};
 ghost use Rattle.rules.specs.Page.{header, pageOf};
 ghost use Rattle.rules.specs.Verdict.{verdict};
 ghost use Rattle.rules.specs.Write.{pairsOf, pairsRows, settingsRows, bound, writeRows, Allowed};
