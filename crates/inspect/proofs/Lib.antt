@@ -1,0 +1,4 @@
+pub mod Steps
+pub mod Conditions
+pub mod Scans
+pub mod Parts
