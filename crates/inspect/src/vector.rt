@@ -28,7 +28,7 @@ ghost use Rattle.rules.specs.Verdict.{verdict};
 ghost use Rattle.rules.specs.Examine.{rulesRows};
 ghost use Rattle.rules.proofs.Reading.{Passed};
 ghost use Rattle.decimal.specs.Scale.{Scales32, Scales64};
-ghost use Rattle.checks.specs.Forms.{asVerdict};
+ghost use Rattle.checks.specs.Forms.{formatOf, asVerdict};
 ghost use Rattle.inspect.specs.Seen.{seen32, seen64, FieldsLaid32, FieldsLaid64, ListsLaid32, ListsLaid64};
 
 // Rows 20 to 24: the lowest row that refuses, at its first position.
@@ -104,4 +104,15 @@ pub fn inspect_vector32(part: &[u8], v: usize, n: usize) -> Check
         scale,
     };
     check_rules32(packed, lists, k)
+}
+
+// The same of either kind.
+pub fn inspect_vector(part: &[u8], kind: Kind, v: usize, n: usize) -> Check
+    requires { ⌜ (n ≤ 2 ^ maxS) × Passed (formatOf kind) n (metaAt (formatOf kind) (now part)) (now part) ⌝ }
+    ensures { λ r. ⌜ asVerdict r ≡ verdict (rulesRows (formatOf kind) v (rawFrom (formatOf kind) n (metaAt (formatOf kind) (now (part .entry))) (drop (metaBytes (formatOf kind)) (now (part .entry))))) ⌝ }
+{
+    match kind {
+        Kind::Single => inspect_vector32(part, v, n),
+        Kind::Double => inspect_vector64(part, v, n),
+    }
 }

@@ -1,0 +1,2 @@
+-- What the proofs of the examiner's functions share.
+pub mod Turns

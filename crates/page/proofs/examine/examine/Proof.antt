@@ -1,0 +1,45 @@
+-- `examine::examine` meets its contract: a refusal is the first row's, and done's place is the count of values. Assumes nothing.
+use denote.Ref.{now}
+use Rattle.checks.specs.Forms.{formatOf}
+use Rattle.page.proofs.examine.Turns.{answer-no, answer-done, has-header}
+use borrow.Author.Needs.{needs}
+use Rattle.page.proofs.examine.examine.Statement.{statement}
+use Rattle.page.proofs.examine.examine.Tie as tie
+use Rattle.page.proofs.examine.examine.Reads as reads
+use Rattle.page.proofs.examine.examine.Lts as lts
+use Rattle.checks.proofs.head.count_of.Reads as count-of-reads
+use Rattle.page.proofs.examine.examine_rows.Reads as examine-rows-reads
+
+-- src/examine.rt:68:11
+examine-rows-requires : tie.Need-examine-rows-requires
+examine-rows-requires c κs = search needs
+
+-- src/examine.rt:69:19
+enum-known-answer : tie.Need-enum-known-answer
+enum-known-answer c = search needs
+
+-- src/examine.rt:70:13
+returns : tie.Need-returns
+returns c = let a = c .before .before .before .before .before .args in answer-no (formatOf (a .kind)) (now (a .page)) (c .before .before .before .examine-rows .result) (c .before .before .before .examine-rows .ensures) _ (c .before .answer .given .1)
+
+enum-told : tie.Need-enum-told
+enum-told c = search needs
+
+-- src/examine.rt:74:17
+count-of-requires : tie.Need-count-of-requires
+count-of-requires c κs = let a = c .before .before .before .before .args in has-header (formatOf (a .kind)) (now (a .page)) (c .before .before .examine-rows .result) (c .before .before .examine-rows .ensures) (c .enum-told .given .1)
+
+-- src/examine.rt:65:1
+returns-2 : tie.Need-returns-2
+returns-2 c = let a = c .before .before .before .before .before .args in answer-done (formatOf (a .kind)) (now (a .page)) (c .before .before .before .examine-rows .result) (c .before .before .before .examine-rows .ensures) (c .count-of .result) (c .before .enum-told .given .1) (c .count-of .ensures .0)
+
+pub examine-spec : {M : Type 1} → statement M
+examine-spec =
+    tie.close
+    (tie.spec
+    examine-rows-requires
+    enum-known-answer
+    returns
+    enum-told
+    count-of-requires
+    returns-2)
