@@ -12,3 +12,4 @@ pub mod Bits
 pub mod Done
 pub mod Examples
 pub mod Demands
+pub mod InTurn

@@ -1,0 +1,90 @@
+-- Demand 3 of the calls themselves, one after the other: what is written is accepted, what is accepted is read, and what was read is
+-- written again to the same bytes. Each call is known by its record alone, lent its buffers as the last one left them. Assumes nothing.
+use mathlib.Core.Path.{_≡_, refl, sym, ap, ap₂, _∙_, subst}
+use mathlib.Core.Bool.{not}
+use mathlib.Core.List.{List}
+use Prim.Native.Nat.{ℕ, _*_, _≤_}
+use lib.ListN.{length, take, drop}
+use lib.Seq.{take-append-seam}
+use lib.Dec.{T, T-not}
+use lib.Ieee.{Format}
+use Rattle.digits.specs.Lists.{over}
+use Rattle.rules.specs.Kind.{Bytes, Values}
+use Rattle.rules.specs.Decimal.{Pair}
+use Rattle.rules.specs.Page.{pageOf}
+use Rattle.rules.specs.Verdict.{Point, Result, done, refused, answer, after, done-with}
+use Rattle.rules.specs.Read.{readOf}
+use Rattle.rules.specs.Examine.{examineOf}
+use Rattle.rules.specs.Write.{pairsOf, pairBytes, Inside, PageOf, bound, writeOf}
+use Rattle.rules.specs.Calls.{Written, Read, Examined, among, given-by-writer, given-by-examiner}
+use Rattle.rules.specs.declared.Answer.{Answer}
+use Rattle.rules.proofs.Settings.{pairs-back, length-pairBytes}
+use Rattle.theorems.proofs.Done.{writer-done, page-when-done}
+use Rattle.theorems.proofs.OnePage.{page-is-accepted}
+use Rattle.theorems.proofs.Demands.{writer-answers, examiner-answers, demand-3}
+
+-- a call whose answer has the number 0 is done
+done-with-something : (r : Result) (numbers : List ℕ) → T (not (among 0 numbers)) → ((a : ℕ) (p : Point) → r ≡ refused a p → T (among a numbers))
+    → (a : Answer) → a ≡ answer r → a .number ≡ 0 → (xs : List ℕ) × (r ≡ done xs)
+done-with-something (done xs) numbers never table a is zero = (xs, refl)
+done-with-something (refused b p) numbers never table a is zero =
+    absurd (T-not (among 0 numbers) never (subst (λ (x : ℕ). T (among x numbers)) (sym (ap (λ (x : Answer). x .number) is) ∙ zero) (table b p refl)))
+
+-- and has its output in front
+module _ (r : Result) (xs out : List ℕ) (e : r ≡ done xs) (a : Answer) (is : a ≡ answer r) (end : List ℕ) (left : end ≡ after r out) where
+  answer-is-done : a ≡ done-with (length xs)
+  answer-is-done = is ∙ ap answer e
+
+  end-is : end ≡ over xs out
+  end-is = left ∙ ap (λ (x : Result). after x out) e
+
+  front-is : take (a .place) end ≡ xs
+  front-is = ap₂ (λ (n : ℕ) (l : List ℕ). take n l) (ap (λ (x : Answer). x .place) answer-is-done) end-is ∙ take-append-seam xs (drop (length xs) out)
+
+module _ (fmt : Format) where
+  -- write, then examine the bytes written: done, with the count of the values
+  pub write-then-examine : (values : List ℕ) (s : ℕ) (pairs out : List ℕ) (w : Answer) (end : List ℕ) (x : Answer) → Values fmt values
+      → Written fmt values s pairs out w end → w .number ≡ 0 → Examined fmt (take (w .place) end) x → x ≡ done-with (length values)
+  write-then-examine values s pairs out w end x ok written zero examined =
+      let r = writeOf fmt s pairs values (length out) in
+      let d = done-with-something r given-by-writer tt (writer-answers fmt s pairs values (length out) .of-the-table) w (written .answer-is) zero in
+      let page = page-when-done fmt s pairs values (length out) (d .0) (d .1) in
+      let bytes : take (w .place) end ≡ pageOf fmt s (pairsOf pairs) values = front-is r (d .0) out (d .1) w (written .answer-is) end (written .output-is) ∙ page .1 in
+      examined .answer-is ∙ ap (λ (bs : List ℕ). answer (examineOf fmt bs)) bytes ∙ ap answer (page-is-accepted fmt s (pairsOf pairs) values (page .0) ok)
+
+  -- examine a page, then read it
+  module _ (page out : List ℕ) (x r : Answer) (end : List ℕ) (bytes : Bytes page) (examined : Examined fmt page x) (zero : x .number ≡ 0) (read : Read fmt page out r end) (room : x .place ≤ length out) where
+    -- the values that the page holds are read, to the front of the output
+    pub examine-then-read : (vs : List ℕ) × (s : ℕ) × (ps : List Pair) × PageOf fmt page s ps vs × (r ≡ done-with (length vs)) × (end ≡ over vs out)
+    examine-then-read =
+        let d = done-with-something (examineOf fmt page) given-by-examiner tt (examiner-answers fmt page .of-the-table) x (examined .answer-is) zero in
+        let vs = d .0 in
+        let holds = demand-3 fmt page bytes .accepts vs .0 (d .1) in
+        let fits : length vs ≤ length out = subst (λ (n : ℕ). n ≤ length out) (ap (λ (a : Answer). a .place) (examined .answer-is ∙ ap answer (d .1))) room in
+        let given : readOf fmt (length out) page ≡ done vs = demand-3 fmt page bytes .reads vs (length out) (d .1) fits in
+        (vs, holds .0, holds .1, holds .2, answer-is-done (readOf fmt (length out) page) vs out given r (read .answer-is) end (read .output-is), end-is (readOf fmt (length out) page) vs out given r (read .answer-is) end (read .output-is))
+
+    -- with the page's own s and pairs, what was read is written again to the same bytes
+    pub read-then-write : (s : ℕ) × (pairs : List ℕ) × ((free : List ℕ) (w : Answer) (left : List ℕ) → bound fmt s (r .place) ≤ length free
+        → Written fmt (take (r .place) end) s pairs free w left → (w ≡ done-with (length page)) × (take (w .place) left ≡ page))
+    read-then-write =
+        let t = examine-then-read in
+        again (t .0) (t .1) (t .2) (t .3) (t .4) (t .5)
+      where
+        again : (vs : List ℕ) (s : ℕ) (ps : List Pair) → PageOf fmt page s ps vs → r ≡ done-with (length vs) → end ≡ over vs out
+            → (s : ℕ) × (pairs : List ℕ) × ((free : List ℕ) (w : Answer) (left : List ℕ) → bound fmt s (r .place) ≤ length free
+            → Written fmt (take (r .place) end) s pairs free w left → (w ≡ done-with (length page)) × (take (w .place) left ≡ page))
+        again vs s ps holds er ee = (
+          s,
+          pairBytes ps,
+          λ free w left fits written.
+              let place : r .place ≡ length vs = ap (λ (a : Answer). a .place) er in
+              let values : take (r .place) end ≡ vs = ap₂ (λ (n : ℕ) (l : List ℕ). take n l) place ee ∙ take-append-seam vs (drop (length vs) out) in
+              let same : Written fmt vs s (pairBytes ps) free w left = subst (λ (l : List ℕ). Written fmt l s (pairBytes ps) free w left) values written in
+              let pairs = pairs-back ps in
+              let long : length (pairBytes ps) ≡ 2 * length ps = length-pairBytes ps in
+              let given = writer-done fmt s (pairBytes ps) vs (length free) .1 (long ∙ ap (λ (n : ℕ). 2 * n) (holds .inside .one-each), subst (λ (l : List Pair). Inside fmt s l (length vs)) (sym pairs) (holds .inside), subst (λ (n : ℕ). bound fmt s n ≤ length free) place fits) in
+              let given-page : writeOf fmt s (pairBytes ps) vs (length free) ≡ done page = given ∙ ap (λ (l : List Pair). done (pageOf fmt s l vs)) pairs ∙ ap done (sym (holds .page-is)) in
+              let result = writeOf fmt s (pairBytes ps) vs (length free) in
+              (answer-is-done result page free given-page w (same .answer-is) left (same .output-is), front-is result page free given-page w (same .answer-is) left (same .output-is)),
+        )
