@@ -53,7 +53,8 @@ unpack32-requires : tie.Need-unpack32-requires
 unpack32-requires c κs =
     let a = c .before .before .before .before .before .before .args in
     let q = c .before .before .before .before .before .before .pre in
-    (readable binary32 (length (now (a .out))) (now (a .part)) (a .m) q .narrow, omega (arith, q .few), packed-holds binary32 (length (now (a .out))) (now (a .part)) (a .m) q (c .before .before .before .meta-bytes .result) _ (c .before .before .before .meta-bytes .ensures .0) (cut-is (c .before .before)))
+    let holds = packed-holds binary32 (length (now (a .out))) (now (a .part)) (a .m) q (c .before .before .before .meta-bytes .result) _ (c .before .before .before .meta-bytes .ensures .0) (cut-is (c .before .before)) in
+    (omega (arith, readable binary32 (length (now (a .out))) (now (a .part)) (a .m) q .narrow), omega (arith, q .few), omega (arith, holds))
 
 cast-turn32 : tie.Need-cast-turn32
 cast-turn32 c = search needs

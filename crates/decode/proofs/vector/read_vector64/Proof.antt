@@ -53,7 +53,8 @@ unpack64-requires : tie.Need-unpack64-requires
 unpack64-requires c κs =
     let a = c .before .before .before .before .before .before .args in
     let q = c .before .before .before .before .before .before .pre in
-    (readable binary64 (length (now (a .out))) (now (a .part)) (a .m) q .narrow, omega (arith, q .few), packed-holds binary64 (length (now (a .out))) (now (a .part)) (a .m) q (c .before .before .before .meta-bytes .result) _ (c .before .before .before .meta-bytes .ensures .0) (cut-is (c .before .before)))
+    let holds = packed-holds binary64 (length (now (a .out))) (now (a .part)) (a .m) q (c .before .before .before .meta-bytes .result) _ (c .before .before .before .meta-bytes .ensures .0) (cut-is (c .before .before)) in
+    (omega (arith, readable binary64 (length (now (a .out))) (now (a .part)) (a .m) q .narrow), omega (arith, q .few), omega (arith, holds))
 
 scale-of64-requires : tie.Need-scale-of64-requires
 scale-of64-requires c κs =
