@@ -1,0 +1,86 @@
+-- `serve::serve_read64` is safe and ends. Assumes nothing.
+use native.Mathlib.Omega.{arith}
+use borrow.Author.Needs.{needs}
+use Rattle.calls.proofs.serve.serve_read64.Statement.{statement}
+use Rattle.calls.proofs.serve.serve_read64.Tie as tie
+use Rattle.calls.proofs.serve.serve_read64.Reads as reads
+use Rattle.calls.proofs.serve.serve_read64.Lts as lts
+use Rattle.calls.proofs.serve.bad.Reads as bad-reads
+use Rattle.calls.proofs.serve.read_with64.Reads as read-with64-reads
+
+bad-requires : tie.Need-bad-requires
+bad-requires c κs = search needs
+
+returns : tie.Need-returns
+returns c = search needs
+
+bad-requires-2 : tie.Need-bad-requires-2
+bad-requires-2 c κs = search needs
+
+returns-2 : tie.Need-returns-2
+returns-2 c = search needs
+
+bad-requires-3 : tie.Need-bad-requires-3
+bad-requires-3 c κs = search needs
+
+returns-3 : tie.Need-returns-3
+returns-3 c = search needs
+
+sub-read-with64 : tie.Need-sub-read-with64
+sub-read-with64 c = search needs
+
+part-page-start : tie.Need-part-page-start
+part-page-start c = search needs
+
+part-page-end : tie.Need-part-page-end
+part-page-end c = omega arith
+
+mul-read-with64 : tie.Need-mul-read-with64
+mul-read-with64 c = search needs
+
+sub-read-with64-2 : tie.Need-sub-read-with64-2
+sub-read-with64-2 c = search needs
+
+part-raw-start : tie.Need-part-raw-start
+part-raw-start c = search needs
+
+part-raw-end : tie.Need-part-raw-end
+part-raw-end c = search needs
+
+sub-read-with64-3 : tie.Need-sub-read-with64-3
+sub-read-with64-3 c = search needs
+
+part-out-start : tie.Need-part-out-start
+part-out-start c = search needs
+
+part-out-end : tie.Need-part-out-end
+part-out-end c = search needs
+
+read-with64-requires : tie.Need-read-with64-requires
+read-with64-requires c κs = search needs
+
+returns-4 : tie.Need-returns-4
+returns-4 c = search needs
+
+pub serve-read64-spec : {M : Type 1} → statement M
+serve-read64-spec =
+    tie.close
+    (tie.spec
+    bad-requires
+    returns
+    bad-requires-2
+    returns-2
+    bad-requires-3
+    returns-3
+    sub-read-with64
+    part-page-start
+    part-page-end
+    mul-read-with64
+    sub-read-with64-2
+    part-raw-start
+    part-raw-end
+    sub-read-with64-3
+    part-out-start
+    part-out-end
+    read-with64-requires
+    returns-4)

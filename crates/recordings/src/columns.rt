@@ -1,0 +1,263 @@
+// Columns of the lengths at which vectors begin, end and are full, at the smallest and the largest s.
+use crate::show::checksum;
+use crate::show::end;
+use crate::show::line;
+use crate::show::number;
+use crate::show::text;
+use page::examine::examine32;
+use page::examine::examine64;
+use page::read::read32;
+use page::read::read64;
+use page::write::measure32;
+use page::write::measure64;
+use page::write::write32;
+use page::write::write64;
+use rules::Answer;
+
+const PATTERNS32: [u32; 8] = [
+    0x3F800000,
+    0x80000000,
+    0x40200000,
+    0x7FC12345,
+    0x40E00000,
+    0x4E6E6B28,
+    0x3E99999A,
+    0xBF800000,
+];
+
+// The value at place i of the column: the patterns in a changing order.
+fn pattern32(i: usize) -> u32 {
+    PATTERNS32[(i % 65536 * 5 + i % 65536 / 8) % 8]
+}
+
+const PATTERNS64: [u64; 8] = [
+    0x3FF0000000000000,
+    0x8000000000000000,
+    0x4004000000000000,
+    0x7FF8000000012345,
+    0x401C000000000000,
+    0x41CDCD6500000000,
+    0x3FD3333333333333,
+    0xBFF0000000000000,
+];
+
+// The value at place i of the column: the patterns in a changing order.
+fn pattern64(i: usize) -> u64 {
+    PATTERNS64[(i % 65536 * 5 + i % 65536 / 8) % 8]
+}
+
+fn title(kind: &[u8], s: u8, n: usize) {
+    text(kind);
+    text(b" s ");
+    number(s as u64);
+    text(b" values ");
+    number(n as u64);
+    text(b":");
+}
+
+// A column of n values, which make so many vectors.
+fn column32(n: usize, s: u8, vectors: usize) {
+    let mut values: [u32; 16385] = [0; 16385];
+    fill32(&mut values);
+    if 16385 < n {
+        return;
+    }
+    measured32(&values[0..n], s, vectors);
+}
+
+// Measured, then written.
+fn measured32(values: &[u32], s: u8, vectors: usize) {
+    let pairs: [u8; 4100] = [0; 4100];
+    if 2050 < vectors {
+        return;
+    }
+    let settings = &pairs[0..2 * vectors];
+    title(b"32", s, values.len());
+    line(b"", b" measure ", measure32(values, s, settings));
+    end();
+    let mut page: [u8; 200000] = [0xEE; 200000];
+    let wrote = write32(values, s, settings, &mut page);
+    finish32(&page, wrote, values, s);
+}
+
+// What was written, and what reader and examiner make of it.
+fn finish32(page: &[u8], wrote: Answer, values: &[u32], s: u8) {
+    title(b"32", s, values.len());
+    line(b"", b" write ", wrote);
+    let length = wrote.place;
+    if (page.len() as u64) < length {
+        end();
+        return;
+    }
+    if wrote.number != 0 {
+        end();
+        return;
+    }
+    let written = &page[0..length as usize];
+    text(b" sum ");
+    number(checksum(written));
+    end();
+    read_back32(written, values, s);
+}
+
+fn read_back32(page: &[u8], values: &[u32], s: u8) {
+    let mut back: [u32; 16385] = [0; 16385];
+    let n = values.len();
+    title(b"32", s, n);
+    line(b"", b" read ", read32(page, &mut back));
+    if same32(values, &back) {
+        text(b" same");
+    }
+    end();
+    title(b"32", s, n);
+    line(b"", b" examine ", examine32(page));
+    end();
+}
+
+fn fill32(values: &mut [u32]) {
+    let mut i: usize = 0;
+    while i < values.len() {
+        values[i] = pattern32(i);
+        i += 1;
+    }
+}
+
+// Whether the first values of `back` are these.
+fn same32(values: &[u32], back: &[u32]) -> bool {
+    let mut i: usize = 0;
+    while i < values.len() {
+        if back.len() <= i {
+            return false;
+        }
+        if values[i] != back[i] {
+            return false;
+        }
+        i += 1;
+    }
+    true
+}
+
+// A column of n values, which make so many vectors.
+fn column64(n: usize, s: u8, vectors: usize) {
+    let mut values: [u64; 16385] = [0; 16385];
+    fill64(&mut values);
+    if 16385 < n {
+        return;
+    }
+    measured64(&values[0..n], s, vectors);
+}
+
+// Measured, then written.
+fn measured64(values: &[u64], s: u8, vectors: usize) {
+    let pairs: [u8; 4100] = [0; 4100];
+    if 2050 < vectors {
+        return;
+    }
+    let settings = &pairs[0..2 * vectors];
+    title(b"64", s, values.len());
+    line(b"", b" measure ", measure64(values, s, settings));
+    end();
+    let mut page: [u8; 330000] = [0xEE; 330000];
+    let wrote = write64(values, s, settings, &mut page);
+    finish64(&page, wrote, values, s);
+}
+
+// What was written, and what reader and examiner make of it.
+fn finish64(page: &[u8], wrote: Answer, values: &[u64], s: u8) {
+    title(b"64", s, values.len());
+    line(b"", b" write ", wrote);
+    let length = wrote.place;
+    if (page.len() as u64) < length {
+        end();
+        return;
+    }
+    if wrote.number != 0 {
+        end();
+        return;
+    }
+    let written = &page[0..length as usize];
+    text(b" sum ");
+    number(checksum(written));
+    end();
+    read_back64(written, values, s);
+}
+
+fn read_back64(page: &[u8], values: &[u64], s: u8) {
+    let mut back: [u64; 16385] = [0; 16385];
+    let n = values.len();
+    title(b"64", s, n);
+    line(b"", b" read ", read64(page, &mut back));
+    if same64(values, &back) {
+        text(b" same");
+    }
+    end();
+    title(b"64", s, n);
+    line(b"", b" examine ", examine64(page));
+    end();
+}
+
+fn fill64(values: &mut [u64]) {
+    let mut i: usize = 0;
+    while i < values.len() {
+        values[i] = pattern64(i);
+        i += 1;
+    }
+}
+
+// Whether the first values of `back` are these.
+fn same64(values: &[u64], back: &[u64]) -> bool {
+    let mut i: usize = 0;
+    while i < values.len() {
+        if back.len() <= i {
+            return false;
+        }
+        if values[i] != back[i] {
+            return false;
+        }
+        i += 1;
+    }
+    true
+}
+
+pub fn run() {
+    column32(0, 3, 0);
+    column32(1, 3, 1);
+    column32(7, 3, 1);
+    column32(8, 3, 1);
+    column32(9, 3, 2);
+    column32(1023, 3, 128);
+    column32(1024, 3, 128);
+    column32(1025, 3, 129);
+    column32(16384, 3, 2048);
+    column32(16385, 3, 2049);
+    column32(0, 10, 0);
+    column32(1, 10, 1);
+    column32(7, 10, 1);
+    column32(8, 10, 1);
+    column32(9, 10, 1);
+    column32(1023, 10, 1);
+    column32(1024, 10, 1);
+    column32(1025, 10, 2);
+    column32(16384, 10, 16);
+    column32(16385, 10, 17);
+    column64(0, 3, 0);
+    column64(1, 3, 1);
+    column64(7, 3, 1);
+    column64(8, 3, 1);
+    column64(9, 3, 2);
+    column64(1023, 3, 128);
+    column64(1024, 3, 128);
+    column64(1025, 3, 129);
+    column64(16384, 3, 2048);
+    column64(16385, 3, 2049);
+    column64(0, 10, 0);
+    column64(1, 10, 1);
+    column64(7, 10, 1);
+    column64(8, 10, 1);
+    column64(9, 10, 1);
+    column64(1023, 10, 1);
+    column64(1024, 10, 1);
+    column64(1025, 10, 2);
+    column64(16384, 10, 16);
+    column64(16385, 10, 17);
+}

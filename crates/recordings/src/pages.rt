@@ -1,0 +1,33 @@
+// What reader and examiner make of a page.
+use crate::show::end;
+use crate::show::line;
+use crate::show::values32;
+use crate::show::values64;
+use page::examine::examine32;
+use page::examine::examine64;
+use page::read::read32;
+use page::read::read64;
+
+pub fn both32(name: &[u8], page: &[u8]) {
+    let mut out: [u32; 16] = [0xEEEE_EEEE; 16];
+    let read = read32(page, &mut out);
+    line(name, b" read ", read);
+    if read.number == 0 {
+        values32(&out, read.place);
+    }
+    end();
+    line(name, b" examine ", examine32(page));
+    end();
+}
+
+pub fn both64(name: &[u8], page: &[u8]) {
+    let mut out: [u64; 16] = [0xEEEE_EEEE; 16];
+    let read = read64(page, &mut out);
+    line(name, b" read ", read);
+    if read.number == 0 {
+        values64(&out, read.place);
+    }
+    end();
+    line(name, b" examine ", examine64(page));
+    end();
+}

@@ -1,0 +1,379 @@
+//! The comparison: cases are made, put to the other program and to this one,
+//! and every answer and every byte of every output is held side by side.
+
+use std::fmt::Write;
+
+use crate::answer::{Answer, Outcome};
+use crate::columns::column;
+use crate::driver::{split, Program};
+use crate::floats::Kind;
+use crate::forge::forged;
+use crate::frames::{self, value_bytes, Reply, Request, MALFORMED};
+use crate::random::Random;
+use crate::tally::Tally;
+
+/// A request and where it comes from.
+struct Case {
+    origin: String,
+    request: Request,
+}
+
+/// How many differences are printed in full, of frames and of cases each.
+const SHOWN: u64 = 5;
+/// How many bytes of an input are printed.
+const SHOWN_BYTES: usize = 4_096;
+/// A batch goes out once it has so many bytes.
+const BATCH_BYTES: usize = 4_000_000;
+
+/// The generators of columns and pages have numbers of their own, so that
+/// the same seed gives them different numbers.
+const COLUMNS: u64 = 1;
+const PAGES: u64 = 2;
+
+/// A comparison with one program, and what it has found so far.
+pub struct Comparison<'a> {
+    program: &'a Program,
+    pub tally: Tally,
+    pub requests: u64,
+    pub differences: u64,
+    /// The differences before the ones that are printed now.
+    earlier: u64,
+    waiting: Vec<Case>,
+    waiting_bytes: usize,
+}
+
+impl<'a> Comparison<'a> {
+    pub fn new(program: &'a Program) -> Comparison<'a> {
+        Comparison {
+            program,
+            tally: Tally::default(),
+            requests: 0,
+            differences: 0,
+            earlier: 0,
+            waiting: Vec::new(),
+            waiting_bytes: 0,
+        }
+    }
+
+    /// Compares columns: measured, written, and what was written read back
+    /// and examined.
+    pub fn columns(&mut self, seed: u64, count: usize) -> Result<(), String> {
+        for index in 0..count {
+            let mut random = Random::of_case(seed, COLUMNS, index as u64);
+            let made = column(index, &mut random);
+            let origin = format!("seed {seed}, column {index} ({})", made.note);
+            let (kind, s, room) = (made.kind, made.s, made.room);
+            let (values, pairs) = (made.values, made.pairs);
+            let output = random.bytes(room);
+
+            let measure =
+                Request::Measure { kind, s, values: values.clone(), pairs: pairs.clone() };
+            let write = Request::Write { kind, s, values: values.clone(), pairs, output };
+            if let (Ok(length), reply) = write.perform() {
+                let page = reply.output[..length].to_vec();
+                self.read_back(&origin, kind, &page, &values);
+                let output = lend(kind, values.len() + random.below(9), &mut random);
+                self.put(&origin, Request::Read { kind, page: page.clone(), output })?;
+                self.put(&origin, Request::Examine { kind, page })?;
+            }
+            self.put(&origin, measure)?;
+            self.put(&origin, write)?;
+        }
+        self.flush()
+    }
+
+    /// This program must agree with itself: what it wrote comes back, and
+    /// its examiner has nothing to say.
+    fn read_back(&mut self, origin: &str, kind: Kind, page: &[u8], values: &[u64]) {
+        let output = vec![0; values.len()];
+        let (_, read) = Request::Read { kind, page: page.to_vec(), output }.perform();
+        let (examined, _) = Request::Examine { kind, page: page.to_vec() }.perform();
+        if read.output != value_bytes(kind, values) || examined != Ok(values.len()) {
+            self.report(&format!("the second program contradicts itself\n  {origin}"));
+        }
+    }
+
+    /// Compares damaged and forged pages: read and examined.
+    pub fn pages(&mut self, seed: u64, count: usize) -> Result<(), String> {
+        for index in 0..count {
+            let mut random = Random::of_case(seed, PAGES, index as u64);
+            let made = forged(index, &mut random);
+            let origin = format!("seed {seed}, page {index} ({})", made.note);
+            let (kind, page) = (made.kind, made.page);
+            let output = lend(kind, made.room, &mut random);
+            self.put(&origin, Request::Read { kind, page: page.clone(), output })?;
+            self.put(&origin, Request::Examine { kind, page })?;
+        }
+        self.flush()
+    }
+
+    /// Puts a request into the batch.
+    fn put(&mut self, origin: &str, request: Request) -> Result<(), String> {
+        self.waiting_bytes += request_size(&request);
+        self.waiting.push(Case { origin: origin.into(), request });
+        if self.waiting_bytes >= BATCH_BYTES {
+            return self.flush();
+        }
+        Ok(())
+    }
+
+    /// Puts the batch to both programs at the same time.
+    fn flush(&mut self) -> Result<(), String> {
+        let cases = std::mem::take(&mut self.waiting);
+        self.waiting_bytes = 0;
+        let requests: Vec<&Request> = cases.iter().map(|case| &case.request).collect();
+        let running = self.program.ask(&requests)?;
+        let own: Vec<(Outcome, Reply)> = requests.iter().map(|r| r.perform()).collect();
+        let bytes = running.finish()?;
+        let other = split(&requests, &bytes)?;
+        for ((case, own), other) in cases.iter().zip(&own).zip(&other) {
+            self.hold(case, own, other.as_ref())?;
+        }
+        Ok(())
+    }
+
+    /// Holds two replies side by side.
+    fn hold(
+        &mut self,
+        case: &Case,
+        own: &(Outcome, Reply),
+        other: Option<&Reply>,
+    ) -> Result<(), String> {
+        self.requests += 1;
+        self.tally.count(case.request.call(), case.request.kind(), own.0);
+        if other != Some(&own.1) {
+            self.report(&describe(case, own, other));
+        }
+        match other {
+            None => Err(format!("the program ended before its answer to {}", case.origin)),
+            Some(reply) if reply.answer == MALFORMED => {
+                Err(format!("the program takes the frame of {} as malformed", case.origin))
+            }
+            Some(_) => Ok(()),
+        }
+    }
+
+    fn report(&mut self, text: &str) {
+        self.differences += 1;
+        if self.differences <= self.earlier + SHOWN {
+            println!("difference {}: {text}\n", self.differences);
+        }
+    }
+
+    /// Frames that break the shape get the answer 255, 0, 0 and no more;
+    /// frames at a limit don't.
+    pub fn malformed(&mut self) -> Result<usize, String> {
+        let cases = malformed_frames();
+        for (note, input, wanted) in &cases {
+            let running = self.program.start(input.clone(), wanted.len() + 100)?;
+            let got = running.finish()?;
+            if got != *wanted {
+                let start = &input[..input.len().min(64)];
+                self.report(&format!(
+                    "frames: {note}\n  input ({} bytes) {}\n  wanted  {}\n  program {}",
+                    input.len(),
+                    hex(start),
+                    hex(wanted),
+                    hex(&got)
+                ));
+            }
+        }
+        self.earlier = self.differences;
+        Ok(cases.len())
+    }
+}
+
+/// An output of random values, so that a value left alone can be told.
+fn lend(kind: Kind, count: usize, random: &mut Random) -> Vec<u64> {
+    (0..count).map(|_| random.word() & kind.mask()).collect()
+}
+
+/// Bytes of a request and its answer, roughly.
+fn request_size(request: &Request) -> usize {
+    let lists = match request {
+        Request::Measure { kind, values, pairs, .. } => values.len() * kind.size() + pairs.len(),
+        Request::Write { kind, values, pairs, .. } => values.len() * kind.size() + pairs.len(),
+        Request::Read { page, .. } | Request::Examine { page, .. } => page.len(),
+    };
+    frames::REQUEST_HEAD + lists + 2 * request.output_bytes()
+}
+
+/// A difference as a person reads it.
+fn describe(case: &Case, own: &(Outcome, Reply), other: Option<&Reply>) -> String {
+    let request = &case.request;
+    let mut text = format!("{}, {}-bit\n", request.call().name(), request.kind().bits());
+    let _ = writeln!(text, "  from     {}", case.origin);
+    describe_inputs(&mut text, request);
+    let why = own.0.map_or_else(|refusal| refusal.fault.line().text, |_| "done");
+    let _ = writeln!(text, "  second   {}: {why}", numbers(own.1.answer));
+    match other {
+        None => text.push_str("  program  no answer, or not the whole of it"),
+        Some(reply) => {
+            let _ = write!(text, "  program  {}", numbers(reply.answer));
+            describe_outputs(&mut text, &own.1.output, &reply.output);
+        }
+    }
+    text
+}
+
+fn describe_inputs(text: &mut String, request: &Request) {
+    match request {
+        Request::Measure { kind, s, values, pairs } => {
+            let _ = writeln!(text, "  s        {s}");
+            let _ = writeln!(text, "  values   {}", hex_values(*kind, values));
+            let _ = writeln!(text, "  pairs    {}", hex(pairs));
+        }
+        Request::Write { kind, s, values, pairs, output } => {
+            let _ = writeln!(text, "  s        {s}");
+            let _ = writeln!(text, "  values   {}", hex_values(*kind, values));
+            let _ = writeln!(text, "  pairs    {}", hex(pairs));
+            let _ = writeln!(text, "  room     {} bytes", output.len());
+        }
+        Request::Read { page, output, .. } => {
+            let _ = writeln!(text, "  page     {}", hex(page));
+            let _ = writeln!(text, "  room     {} values", output.len());
+        }
+        Request::Examine { page, .. } => {
+            let _ = writeln!(text, "  page     {}", hex(page));
+        }
+    }
+}
+
+/// The first byte in which two outputs differ, with what stands around it.
+fn describe_outputs(text: &mut String, own: &[u8], other: &[u8]) {
+    let Some(at) = (0..own.len().max(other.len())).find(|i| own.get(*i) != other.get(*i)) else {
+        return;
+    };
+    let around = |bytes: &[u8]| {
+        let from = at.saturating_sub(16).min(bytes.len());
+        hex(&bytes[from..bytes.len().min(at + 16)])
+    };
+    let from = at.saturating_sub(16);
+    let _ = write!(text, "\n  outputs  differ first at byte {at}; from byte {from} on:");
+    let _ = write!(text, "\n    second   {}", around(own));
+    let _ = write!(text, "\n    program  {}", around(other));
+}
+
+fn numbers(answer: Answer) -> String {
+    format!("{} {} {}", answer.number, answer.vector, answer.place)
+}
+
+/// Bytes in hexadecimal, the end left out if there are very many.
+fn hex(bytes: &[u8]) -> String {
+    let shown = &bytes[..bytes.len().min(SHOWN_BYTES)];
+    let mut text: String = shown.iter().map(|byte| format!("{byte:02X}")).collect();
+    if shown.len() < bytes.len() {
+        let _ = write!(text, "... ({} bytes in all)", bytes.len());
+    }
+    text
+}
+
+/// Values as bit patterns, the end left out if there are very many.
+fn hex_values(kind: Kind, values: &[u64]) -> String {
+    let shown = &values[..values.len().min(SHOWN_BYTES / kind.size())];
+    let digits = 2 * kind.size();
+    let texts: Vec<String> = shown.iter().map(|value| format!("{value:0digits$X}")).collect();
+    let mut text = texts.join(" ");
+    if shown.len() < values.len() {
+        let _ = write!(text, "... ({} values in all)", values.len());
+    }
+    text
+}
+
+/// Inputs that break the shape, or just don't, with the output that each
+/// must get. Only what the rules of the frames say in so many words is here.
+fn malformed_frames() -> Vec<(String, Vec<u8>, Vec<u8>)> {
+    let good = good_requests();
+    let before: Vec<u8> = good.iter().flat_map(Request::to_bytes).collect();
+    let answers: Vec<u8> = good.iter().flat_map(answer_bytes).collect();
+    let no = MALFORMED.to_bytes();
+    let mut cases = vec![
+        ("no requests".into(), vec![], vec![]),
+        ("sound requests".into(), before.clone(), answers.clone()),
+    ];
+    for (note, bad) in bad_requests(&good) {
+        cases.push((format!("{note}, alone"), bad.clone(), no.clone()));
+        let input = [before.clone(), bad].concat();
+        cases.push((format!("{note}, after sound requests"), input, [&answers[..], &no].concat()));
+    }
+    for (note, request) in requests_at_limits() {
+        cases.push((note, request.to_bytes(), answer_bytes(&request)));
+    }
+    cases
+}
+
+fn answer_bytes(request: &Request) -> Vec<u8> {
+    let (_, reply) = request.perform();
+    [reply.answer.to_bytes(), reply.output].concat()
+}
+
+/// One sound request of each call.
+fn good_requests() -> Vec<Request> {
+    let (kind, s, pairs) = (Kind::Single, 10, vec![1, 0]);
+    let values = vec![0x3FC0_0000, 0x7FC0_0000, 0x4020_0000];
+    let output = vec![0xA5; 100];
+    let write = Request::Write { kind, s, values: values.clone(), pairs: pairs.clone(), output };
+    let (outcome, reply) = write.perform();
+    let page = reply.output[..outcome.unwrap_or(0)].to_vec();
+    vec![
+        Request::Measure { kind, s, values, pairs },
+        write,
+        Request::Read { kind, page: page.clone(), output: vec![0xA5A5_A5A5; 5] },
+        Request::Examine { kind, page },
+    ]
+}
+
+fn bad_requests(good: &[Request]) -> Vec<(String, Vec<u8>)> {
+    let mut bad = Vec::new();
+    for request in good {
+        let bytes = request.to_bytes();
+        let call = request.call().name();
+        for (at, byte) in [(0, 0), (0, 5), (0, 255), (1, 0), (1, 33), (1, 128), (3, 1), (3, 255)] {
+            let mut changed = bytes.clone();
+            changed[at] = byte;
+            bad.push((format!("{call} with byte {at} as {byte}"), changed));
+        }
+        for keep in [1, 4, 8, 15, 16, 17, bytes.len() - 1] {
+            bad.push((format!("{call} cut to {keep} bytes"), bytes[..keep].to_vec()));
+        }
+        for (at, limit) in limits(request) {
+            for length in [limit as u32 + 1, u32::MAX] {
+                let mut changed = bytes.clone();
+                changed[at..at + 4].copy_from_slice(&length.to_le_bytes());
+                bad.push((format!("{call} with length {length} at byte {at}"), changed));
+            }
+        }
+    }
+    bad
+}
+
+/// Where the lengths of a call stand in its frame, and how far they go.
+fn limits(request: &Request) -> Vec<(usize, usize)> {
+    match request {
+        Request::Measure { .. } => vec![(4, frames::MOST_VALUES), (8, frames::MOST_PAIRS)],
+        Request::Write { .. } => {
+            vec![(4, frames::MOST_VALUES), (8, frames::MOST_PAIRS), (12, frames::MOST_BYTES)]
+        }
+        Request::Read { .. } => vec![(4, frames::MOST_BYTES), (12, frames::MOST_VALUES)],
+        Request::Examine { .. } => vec![(4, frames::MOST_BYTES)],
+    }
+}
+
+/// Requests whose lists are as long as they may be.
+fn requests_at_limits() -> Vec<(String, Request)> {
+    let mut requests = Vec::new();
+    for kind in [Kind::Single, Kind::Double] {
+        let values = vec![0; frames::MOST_VALUES];
+        let pairs = vec![0; frames::MOST_PAIRS];
+        let page = vec![1; frames::MOST_BYTES];
+        let note = |call: &str| format!("{call} at its limits, {}-bit", kind.bits());
+        let (v, p) = (values.clone(), pairs.clone());
+        requests.push((note("measure"), Request::Measure { kind, s: 3, values: v, pairs: p }));
+        let output = vec![0xA5; frames::MOST_BYTES];
+        let (v, p) = (values.clone(), pairs);
+        requests.push((note("write"), Request::Write { kind, s: 3, values: v, pairs: p, output }));
+        requests.push((note("read"), Request::Read { kind, page: page.clone(), output: values }));
+        requests.push((note("examine"), Request::Examine { kind, page }));
+    }
+    requests
+}

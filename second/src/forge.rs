@@ -1,0 +1,668 @@
+//! Pages that were not written by a writer: damaged ones (bytes of a sound
+//! page changed) and forged ones (built field by field, so that a chosen row
+//! is met, also in a later vector and at a later place).
+
+use crate::columns::{any_pair, sound_column};
+use crate::floats::{Kind, KINDS};
+use crate::layout::{self, pack, push_number};
+use crate::random::Random;
+use crate::read::parse;
+use crate::write::{fit, write};
+
+/// A page to read and examine, with the lent output's length in values.
+pub struct Forged {
+    pub note: String,
+    pub kind: Kind,
+    pub page: Vec<u8>,
+    pub room: usize,
+}
+
+/// A page in parts, each of which may be changed by itself.
+struct Draft {
+    kind: Kind,
+    version: u8,
+    mode: u8,
+    encoding: u8,
+    s: u8,
+    count: u32,
+    vectors: Vec<Part>,
+    /// Added to the offset of a vector.
+    shifts: Vec<u32>,
+    /// Only so many bytes are kept.
+    keep: Option<usize>,
+    tail: Vec<u8>,
+    /// The vector that all forgeries go to, if they shall meet in one.
+    focus: Option<usize>,
+}
+
+/// A vector in parts.
+struct Part {
+    exponent: u8,
+    factor: u8,
+    /// The stored count of exceptions, if it is not the list's length.
+    stored_count: Option<u16>,
+    frame: i64,
+    width: u8,
+    fields: Vec<u64>,
+    /// Bits put into the last packed byte, as far as fields leave it unused.
+    spare: u8,
+    positions: Vec<u16>,
+    exceptions: Vec<u64>,
+}
+
+impl Part {
+    fn wholes(&self, kind: Kind) -> Vec<i64> {
+        self.fields.iter().map(|field| kind.plus(self.frame, *field)).collect()
+    }
+
+    /// Takes other whole numbers, with the frame and width that fit them.
+    fn refit(&mut self, wholes: &[i64]) {
+        let (frame, fields, width) = fit(wholes);
+        (self.frame, self.fields, self.width) = (frame, fields, width as u8);
+    }
+
+    /// Puts one whole number at some positions; an earlier forgery may have
+    /// listed positions that the vector doesn't have.
+    fn put(&mut self, kind: Kind, positions: &[u16], whole: i64) {
+        let mut wholes = self.wholes(kind);
+        for position in positions {
+            if let Some(place) = wholes.get_mut(usize::from(*position)) {
+                *place = whole;
+            }
+        }
+        self.refit(&wholes);
+    }
+
+    /// The value of a whole number, also if the pair has been forged.
+    fn back(&self, kind: Kind, whole: i64) -> u64 {
+        let most = kind.largest_exponent();
+        kind.back(whole, most.min(self.exponent.into()), most.min(self.factor.into()))
+    }
+
+    fn is_listed(&self, position: usize) -> bool {
+        self.positions.contains(&(position as u16))
+    }
+
+    fn unlisted(&self) -> Vec<usize> {
+        (0..self.fields.len()).filter(|i| !self.is_listed(*i)).collect()
+    }
+
+    fn stand_in(&self, kind: Kind) -> i64 {
+        self.unlisted().first().map_or(0, |first| self.wholes(kind)[*first])
+    }
+
+    /// Puts a value into the list, at its place in the order.
+    fn list(&mut self, position: usize, value: u64) {
+        let position = position as u16;
+        let at = self.positions.iter().position(|other| *other >= position);
+        let at = at.unwrap_or(self.positions.len());
+        self.positions.insert(at, position);
+        self.exceptions.insert(at, value);
+    }
+
+    /// Gives every listed position the stand-in, and fits the frame to it.
+    fn settle(&mut self, kind: Kind) {
+        let stand_in = self.stand_in(kind);
+        self.put(kind, &self.positions.clone(), stand_in);
+    }
+
+    /// Makes sure that at least so many true exceptions are listed, as far
+    /// as there are values.
+    fn need_exceptions(&mut self, kind: Kind, least: usize, random: &mut Random) {
+        let least = least.min(self.fields.len());
+        while self.positions.len() < least {
+            let position = *random.choose(&self.unlisted());
+            self.list(position, true_exception(kind, random));
+        }
+        self.settle(kind);
+    }
+
+    fn bytes(&self, kind: Kind) -> Vec<u8> {
+        let listed = self.stored_count.unwrap_or(self.positions.len() as u16);
+        let width = usize::from(self.width);
+        let mut bytes = vec![self.exponent, self.factor];
+        push_number(&mut bytes, u64::from(listed), 2);
+        push_number(&mut bytes, self.frame as u64, kind.size());
+        bytes.push(self.width);
+        bytes.extend(pack(&self.fields, width));
+        let used = self.fields.len() * width % 8;
+        if used > 0 {
+            let last = bytes.len() - 1;
+            bytes[last] |= self.spare >> used << used;
+        }
+        for position in &self.positions {
+            push_number(&mut bytes, u64::from(*position), layout::POSITION);
+        }
+        for value in &self.exceptions {
+            push_number(&mut bytes, *value, kind.size());
+        }
+        bytes
+    }
+}
+
+/// A value that is an exception for every pair.
+fn true_exception(kind: Kind, random: &mut Random) -> u64 {
+    let infinity = kind.nearest(f64::INFINITY);
+    let value = match random.below(4) {
+        0 => kind.sign(),
+        1 => infinity,
+        2 => infinity | kind.sign(),
+        _ => infinity | 1 | (random.word() & kind.mask()),
+    };
+    value & kind.mask()
+}
+
+impl Draft {
+    /// The parts of a sound page; nothing if the page isn't sound.
+    fn of_page(kind: Kind, page: &[u8]) -> Option<Draft> {
+        let page = parse(kind, page).ok()?;
+        let vectors: Vec<Part> = page
+            .vectors
+            .into_iter()
+            .map(|vector| Part {
+                exponent: vector.exponent,
+                factor: vector.factor,
+                stored_count: None,
+                frame: vector.frame,
+                width: vector.width as u8,
+                fields: vector.fields,
+                spare: 0,
+                positions: vector.positions.iter().map(|p| *p as u16).collect(),
+                exceptions: vector.exceptions,
+            })
+            .collect();
+        Some(Draft {
+            kind,
+            version: 1,
+            mode: 0,
+            encoding: 0,
+            s: page.s,
+            count: page.count as u32,
+            shifts: vec![0; vectors.len()],
+            vectors,
+            keep: None,
+            tail: Vec::new(),
+            focus: None,
+        })
+    }
+
+    /// Where each vector starts in the page, and the end of the last.
+    fn starts(&self) -> Vec<usize> {
+        let mut starts = vec![layout::HEADER + layout::OFFSET * self.vectors.len()];
+        for vector in &self.vectors {
+            starts.push(starts[starts.len() - 1] + vector.bytes(self.kind).len());
+        }
+        starts
+    }
+
+    fn bytes(&self) -> Vec<u8> {
+        let mut bytes = vec![self.version, self.mode, self.encoding, self.s];
+        push_number(&mut bytes, u64::from(self.count), 4);
+        for (start, shift) in self.starts().iter().zip(&self.shifts) {
+            let offset = ((start - layout::HEADER) as u32).wrapping_add(*shift);
+            push_number(&mut bytes, u64::from(offset), layout::OFFSET);
+        }
+        for vector in &self.vectors {
+            bytes.extend(vector.bytes(self.kind));
+        }
+        bytes.extend(&self.tail);
+        bytes.truncate(self.keep.unwrap_or(bytes.len()));
+        bytes
+    }
+
+    /// The number of the vector to forge.
+    fn pick(&self, random: &mut Random) -> usize {
+        self.focus.unwrap_or_else(|| random.below(self.vectors.len()))
+    }
+
+    /// The vector to forge; a draft has at least one.
+    fn any<'a>(&'a mut self, random: &mut Random) -> &'a mut Part {
+        let v = self.pick(random);
+        &mut self.vectors[v]
+    }
+}
+
+/// A change to a draft.
+type Forge = fn(&mut Draft, &mut Random);
+
+/// Forgeries by the row that they are made for. A forged draft has a vector.
+const FORGERIES: &[(&str, Forge)] = &[
+    ("a header cut short", |draft, random| draft.keep = Some(random.below(8))),
+    ("another version", |draft, random| draft.version = 1 ^ not_zero(random)),
+    ("another mode", |draft, random| draft.mode = not_zero(random)),
+    ("another integer encoding", |draft, random| draft.encoding = not_zero(random)),
+    ("two faults in the header", two_in_header),
+    ("s below 3", |draft, random| draft.s = random.below(3) as u8),
+    ("s above 10", |draft, random| draft.s = random.between(11, 255) as u8),
+    ("another s", |draft, random| draft.s = random.between(3, 10) as u8),
+    ("count 16,385", |draft, _| draft.count = 16_385),
+    ("a huge count", |draft, random| draft.count = 16_385 + (random.of_bits(31) as u32)),
+    ("another count", |draft, random| {
+        draft.count = draft.count.saturating_add_signed(random.near(9) as i32)
+    }),
+    ("offsets cut", |draft, random| {
+        let end = layout::HEADER + layout::OFFSET * draft.vectors.len();
+        draft.keep = Some(random.between(8, end - 1));
+    }),
+    ("an offset wrong", |draft, random| {
+        let v = draft.pick(random);
+        draft.shifts[v] = random.near(9) as u32;
+    }),
+    ("offsets of any size", |draft, random| {
+        let v = draft.pick(random);
+        draft.shifts[v..].fill_with(|| random.word() as u32);
+    }),
+    ("offsets from byte 0", |draft, _| draft.shifts.fill(8)),
+    ("offsets from the first vector", |draft, _| {
+        let offsets = (layout::OFFSET * draft.vectors.len()) as u32;
+        draft.shifts.fill(0u32.wrapping_sub(offsets));
+    }),
+    ("metadata cut", |draft, random| {
+        let v = draft.pick(random);
+        let start = draft.starts()[v];
+        draft.keep = Some(start + random.below(layout::metadata(draft.kind)));
+    }),
+    ("data cut", cut_data),
+    ("exponent above E", |draft, random| {
+        let above = draft.kind.largest_exponent() + 1;
+        let exponent = if random.one_in(2) { above } else { random.between(above, 255) };
+        draft.any(random).exponent = exponent as u8;
+    }),
+    ("factor above exponent", |draft, random| {
+        let more = random.between(1, 9) as u8;
+        let vector = draft.any(random);
+        vector.factor = vector.exponent.saturating_add(more);
+    }),
+    ("more exceptions than values, stored", |draft, random| {
+        let more = if random.one_in(2) { 1 } else { random.between(1, 9_000) };
+        let vector = draft.any(random);
+        vector.stored_count = Some((vector.fields.len() + more) as u16);
+    }),
+    ("more exceptions than values, with data", |draft, random| {
+        let vector = draft.any(random);
+        let more = vector.fields.len() + 1;
+        vector.positions = (0..more as u16).collect();
+        vector.exceptions = vec![0; more];
+    }),
+    ("as many exceptions as values, stored", |draft, random| {
+        let vector = draft.any(random);
+        vector.stored_count = Some(vector.fields.len() as u16);
+    }),
+    ("another count of exceptions", |draft, random| {
+        let change = random.near(2) as i16;
+        let vector = draft.any(random);
+        let listed = vector.positions.len() as u16;
+        vector.stored_count = Some(listed.saturating_add_signed(change));
+    }),
+    ("width above W", |draft, random| {
+        let above = draft.kind.bits() + 1;
+        let width = if random.one_in(2) { above } else { random.between(above, 255) };
+        draft.any(random).width = width as u8;
+    }),
+    ("a position too high", |draft, random| {
+        let kind = draft.kind;
+        let more = if random.one_in(2) { 0 } else { random.of_bits(15) as u16 };
+        let wanted = random.between(1, 3);
+        let vector = draft.any(random);
+        vector.need_exceptions(kind, wanted, random);
+        let at = random.below(vector.positions.len());
+        vector.positions[at] = vector.fields.len() as u16 + more;
+    }),
+    ("positions equal", |draft, random| {
+        let vector = several_listed(draft, random);
+        if vector.positions.len() > 1 {
+            let at = random.between(1, vector.positions.len() - 1);
+            vector.positions[at] = vector.positions[at - 1];
+        }
+    }),
+    ("positions descending", |draft, random| {
+        let vector = several_listed(draft, random);
+        let (one, other) = (random.below(vector.positions.len()), vector.positions.len() - 1);
+        vector.positions.swap(one, other);
+    }),
+    ("bytes after", |draft, random| draft.tail = random.some_bytes(2, 30)),
+    ("one byte after", |draft, random| draft.tail = random.bytes(1)),
+    ("an unused bit", unused_bit),
+    ("a whole number too precise", |draft, random| {
+        let whole = too_precise(draft.kind, random);
+        put_unlisted(draft, random, whole);
+    }),
+    ("a whole number too large", |draft, random| {
+        let whole = too_large(draft.kind, random);
+        put_unlisted(draft, random, whole);
+    }),
+    ("any whole number", |draft, random| {
+        let whole = draft.kind.plus(0, random.of_bits(64));
+        put_unlisted(draft, random, whole);
+    }),
+    ("a needless exception", needless),
+    ("a listed value replaced", |draft, random| {
+        let kind = draft.kind;
+        let wanted = random.between(1, 4);
+        let vector = draft.any(random);
+        vector.need_exceptions(kind, wanted, random);
+        let whole = random.of_bits(12) as i64;
+        let at = random.below(vector.exceptions.len());
+        vector.exceptions[at] = vector.back(kind, whole);
+    }),
+    ("another number at a listed position", |draft, random| {
+        let kind = draft.kind;
+        let wanted = random.between(1, 4);
+        let vector = draft.any(random);
+        vector.need_exceptions(kind, wanted, random);
+        let position = *random.choose(&vector.positions);
+        let other = match random.below(4) {
+            0 => 0,
+            1 => kind.plus(vector.stand_in(kind), 1),
+            2 => *random.choose(&vector.wholes(kind)),
+            _ => kind.plus(0, random.of_bits(64)),
+        };
+        vector.put(kind, &[position], other);
+    }),
+    ("the last number as stand-in", |draft, random| {
+        let kind = draft.kind;
+        let vector = several_listed(draft, random);
+        let wholes = vector.wholes(kind);
+        let last = vector.unlisted().last().map_or(1, |last| wholes[*last]);
+        vector.put(kind, &vector.positions.clone(), last);
+    }),
+    ("all listed, with a stand-in that isn't 0", |draft, random| {
+        let kind = draft.kind;
+        let whole = random.near(3);
+        let vector = draft.any(random);
+        vector.need_exceptions(kind, usize::MAX, random);
+        let wholes = vec![whole; vector.fields.len()];
+        vector.refit(&wholes);
+    }),
+    ("frame too small", |draft, random| {
+        let less = if random.one_in(2) { 1 } else { 1 + random.of_bits(12) };
+        let kind = draft.kind;
+        let vector = draft.any(random);
+        move_frame(vector, kind, 0u64.wrapping_sub(less));
+    }),
+    ("frame too large, fields wrapping", |draft, random| {
+        let more = if random.one_in(2) { 1 } else { 1 + random.of_bits(12) };
+        let kind = draft.kind;
+        let vector = draft.any(random);
+        move_frame(vector, kind, more);
+    }),
+    ("width too large", |draft, random| {
+        let most = draft.kind.bits();
+        let all = random.one_in(4);
+        let vector = draft.any(random);
+        let more = usize::from(vector.width) + 1;
+        let width = if all { random.between(more, most) } else { more };
+        vector.width = width.min(most) as u8;
+    }),
+    ("fields of any kind", wild),
+    ("another pair", |draft, random| {
+        let pair = any_pair(draft.kind, random);
+        let vector = draft.any(random);
+        (vector.exponent, vector.factor) = (pair.exponent as u8, pair.factor as u8);
+    }),
+    ("untouched", |_, _| {}),
+];
+
+fn not_zero(random: &mut Random) -> u8 {
+    if random.one_in(2) {
+        1
+    } else {
+        random.between(1, 255) as u8
+    }
+}
+
+fn two_in_header(draft: &mut Draft, random: &mut Random) {
+    let parts: [fn(&mut Draft, &mut Random); 5] = [
+        |draft, random| draft.version = 1 ^ not_zero(random),
+        |draft, random| draft.mode = not_zero(random),
+        |draft, random| draft.encoding = not_zero(random),
+        |draft, random| draft.s = random.between(11, 255) as u8,
+        |draft, random| draft.count = 16_385 + (random.of_bits(31) as u32),
+    ];
+    let first = random.below(4);
+    parts[first](draft, random);
+    parts[random.between(first + 1, 4)](draft, random);
+}
+
+/// Cuts inside the data of a vector, or one byte before its end.
+fn cut_data(draft: &mut Draft, random: &mut Random) {
+    let v = draft.pick(random);
+    let starts = draft.starts();
+    let data = starts[v] + layout::metadata(draft.kind);
+    let last = starts[v + 1] - 1;
+    draft.keep = Some(if random.one_in(3) { last } else { random.between(data, last) });
+}
+
+/// A vector with several exceptions, as far as it has values.
+fn several_listed<'a>(draft: &'a mut Draft, random: &mut Random) -> &'a mut Part {
+    let kind = draft.kind;
+    let wanted = random.between(2, 6);
+    let vector = draft.any(random);
+    vector.need_exceptions(kind, wanted, random);
+    vector
+}
+
+/// Only the last vector can have unused bits. If it has none by chance, an
+/// odd width makes some; the lower row is still the one to be named.
+fn unused_bit(draft: &mut Draft, random: &mut Random) {
+    let Some(vector) = draft.vectors.last_mut() else { return };
+    if vector.fields.len() * usize::from(vector.width) % 8 == 0 {
+        vector.width |= 1;
+    }
+    let used = vector.fields.len() * usize::from(vector.width) % 8;
+    vector.spare = if random.one_in(2) { 1 << random.between(used, 7) } else { random.byte() };
+}
+
+/// A whole number with more binary digits than a float of the kind holds.
+fn too_precise(kind: Kind, random: &mut Random) -> i64 {
+    let digits = if kind == Kind::Single { 24 } else { 53 };
+    let whole = (1i64 << digits) + 1 + 2 * random.of_bits(digits - 3) as i64;
+    if random.one_in(3) {
+        -whole
+    } else {
+        whole
+    }
+}
+
+/// A whole number whose float lies above L.
+fn too_large(kind: Kind, random: &mut Random) -> i64 {
+    let below = random.below(64) as i64;
+    let (least, most) = match kind {
+        Kind::Single => (i64::from(i32::MIN), i64::from(i32::MAX)),
+        Kind::Double => (i64::MIN, i64::MAX),
+    };
+    if random.one_in(3) {
+        least + below
+    } else {
+        most - below
+    }
+}
+
+/// Puts a whole number at an unlisted position; the stand-ins follow, so
+/// that nothing else is wrong.
+fn put_unlisted(draft: &mut Draft, random: &mut Random, whole: i64) {
+    let kind = draft.kind;
+    let vector = draft.any(random);
+    let unlisted = vector.unlisted();
+    if unlisted.is_empty() {
+        return;
+    }
+    let position = *random.choose(&unlisted);
+    vector.put(kind, &[position as u16], whole);
+    vector.settle(kind);
+}
+
+/// Lists a value that needs no listing.
+fn needless(draft: &mut Draft, random: &mut Random) {
+    let kind = draft.kind;
+    let vector = draft.any(random);
+    let unlisted = vector.unlisted();
+    if unlisted.is_empty() {
+        return;
+    }
+    let position = *random.choose(&unlisted);
+    let whole = vector.wholes(kind)[position];
+    vector.list(position, vector.back(kind, whole));
+    vector.settle(kind);
+}
+
+/// Moves the frame and keeps the whole numbers: the fields take up the
+/// difference modulo 2^W, in the width that holds them.
+fn move_frame(vector: &mut Part, kind: Kind, by: u64) {
+    vector.frame = kind.plus(vector.frame, by);
+    for field in &mut vector.fields {
+        *field = field.wrapping_sub(by) & kind.mask();
+    }
+    let largest = vector.fields.iter().copied().max().unwrap_or(0);
+    vector.width = layout::width_of(largest) as u8;
+}
+
+/// Any pair, frame, width, fields and exceptions that pass the reader.
+fn wild(draft: &mut Draft, random: &mut Random) {
+    let kind = draft.kind;
+    let pair = any_pair(kind, random);
+    let vector = draft.any(random);
+    let width = random.between(0, kind.bits());
+    let listed = *random.choose(&[0, 2, 5]);
+    (vector.exponent, vector.factor) = (pair.exponent as u8, pair.factor as u8);
+    vector.frame = kind.plus(0, random.of_bits(64));
+    vector.width = width as u8;
+    vector.positions.clear();
+    vector.exceptions.clear();
+    for i in 0..vector.fields.len() {
+        vector.fields[i] = random.of_bits(width);
+        if listed > 0 && random.one_in(listed) {
+            let value = if random.one_in(2) { random.word() } else { true_exception(kind, random) };
+            vector.list(i, value & kind.mask());
+        }
+    }
+}
+
+/// A change to the bytes of a page.
+type Damage = fn(&mut Vec<u8>, &mut Random);
+
+const DAMAGES: &[(&str, Damage)] = &[
+    ("a bit flipped", |page, random| flip(page, random)),
+    ("a few bits flipped", |page, random| {
+        for _ in 0..random.between(2, 6) {
+            flip(page, random);
+        }
+    }),
+    ("a byte changed", |page, random| {
+        let at = random.below(page.len());
+        page[at] = random.byte();
+    }),
+    ("a byte near the start changed", |page, random| {
+        let at = random.below(page.len().min(40));
+        page[at] = *random.choose(&[0, 1, 2, 3, 8, 10, 11, 18, 19, 32, 33, 64, 65, 127, 255]);
+    }),
+    ("cut", |page, random| page.truncate(random.below(page.len()))),
+    ("cut by a byte", |page, _| {
+        page.pop();
+    }),
+    ("extended", |page, random| page.extend(random.some_bytes(1, 20))),
+    ("a stretch taken out", |page, random| {
+        let from = random.below(page.len());
+        let to = random.between(from, page.len().min(from + 20));
+        page.drain(from..to);
+    }),
+    ("a stretch cleared", |page, random| {
+        let from = random.below(page.len());
+        let to = random.between(from, page.len().min(from + 20));
+        page[from..to].fill(0);
+    }),
+    ("random bytes after the header", |page, random| {
+        let header = page.len().min(8);
+        page.truncate(header);
+        page.extend(random.some_bytes(0, 200));
+    }),
+    ("random bytes", |page, random| *page = random.some_bytes(0, 60)),
+];
+
+fn flip(page: &mut [u8], random: &mut Random) {
+    if !page.is_empty() {
+        let bit = random.below(page.len() * 8);
+        page[bit / 8] ^= 1 << (bit % 8);
+    }
+}
+
+/// Sizes of pages to forge: small, so that there are many of them; mostly
+/// with several vectors, of which the last is seldom full.
+fn page_size(random: &mut Random) -> (u8, usize) {
+    let s = *random.choose(&[3, 3, 3, 4, 4, 5, 6, 7, 8, 9, 10]);
+    let count = match random.below(100) {
+        0..=69 => random.between(1, 60),
+        70..=89 => random.between(1, 300),
+        90..=98 => random.between(1, 1_500),
+        _ => random.between(1, layout::MOST_VALUES),
+    };
+    (s, count)
+}
+
+/// The page of a sound column, by this program's own writer.
+fn sound_page(kind: Kind, random: &mut Random) -> Vec<u8> {
+    let (s, count) = page_size(random);
+    let column = sound_column(kind, s, count, random);
+    let mut page = vec![0; column.room];
+    let length = write(kind, s, &column.values, &column.pairs, &mut page);
+    page.truncate(length.unwrap_or(0));
+    page
+}
+
+/// How many values are lent: enough, one short, fewer, none.
+fn page_room(page: &[u8], random: &mut Random) -> usize {
+    let stored = page.get(4..8).map_or(0, layout::number) as usize;
+    let count = stored.min(layout::MOST_VALUES);
+    match random.below(16) {
+        0 => count.saturating_sub(1),
+        1 => random.below(count),
+        2 => 0,
+        3..=9 => count,
+        _ => count + random.between(1, 16),
+    }
+}
+
+/// Every how many pages a sound page gets several changes.
+const SEVERAL: usize = 12;
+
+/// The page of an index: each forgery and each damage in turn, then some
+/// with several forgeries and a damage on top.
+pub fn forged(index: usize, random: &mut Random) -> Forged {
+    let cycle = FORGERIES.len() + DAMAGES.len() + SEVERAL;
+    let kind = KINDS[index / cycle % 2];
+    let turn = index % cycle;
+    let mut page = sound_page(kind, random);
+    let mut notes = Vec::new();
+
+    let forgeries: Vec<usize> = if turn < FORGERIES.len() {
+        vec![turn]
+    } else if turn < FORGERIES.len() + DAMAGES.len() {
+        vec![]
+    } else {
+        (0..random.between(2, 3)).map(|_| random.below(FORGERIES.len())).collect()
+    };
+    if let Some(mut draft) = Draft::of_page(kind, &page) {
+        if random.one_in(2) {
+            draft.focus = Some(draft.pick(random));
+        }
+        for forgery in forgeries {
+            let (note, forge) = FORGERIES[forgery];
+            forge(&mut draft, random);
+            notes.push(note);
+        }
+        page = draft.bytes();
+    }
+
+    let damage = match turn.checked_sub(FORGERIES.len()) {
+        Some(turn) if turn < DAMAGES.len() => Some(turn),
+        Some(_) if random.one_in(4) => Some(random.below(DAMAGES.len())),
+        _ => None,
+    };
+    if let (Some(damage), false) = (damage, page.is_empty()) {
+        let (note, change) = DAMAGES[damage];
+        change(&mut page, random);
+        notes.push(note);
+    }
+    let room = page_room(&page, random);
+    Forged { note: notes.join("; "), kind, page, room }
+}

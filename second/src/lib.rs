@@ -1,0 +1,29 @@
+//! An independent second program for ALP pages, written from document 01
+//! (the specification of the build) and source document 004 alone.
+//!
+//! It is meant to be read next to document 01: every rule stands in one place
+//! and nothing is optimised. The parts:
+//!
+//! - `answer`: the table of refusals;
+//! - `floats`: the two kinds and the way between a value and a whole number;
+//! - `layout`: counts, sizes and bit packing of a page;
+//! - `write`, `read`, `examine`: the calls;
+//! - `frames`: requests and answers as bytes, and the serving side;
+//! - `driver`: runs another program and talks to it in frames;
+//! - `random`, `columns`, `forge`: what the programs are compared on;
+//! - `tally`: which refusals were met, and which are missing;
+//! - `compare`: the comparison itself.
+
+pub mod answer;
+pub mod columns;
+pub mod compare;
+pub mod driver;
+pub mod examine;
+pub mod floats;
+pub mod forge;
+pub mod frames;
+pub mod layout;
+pub mod random;
+pub mod read;
+pub mod tally;
+pub mod write;

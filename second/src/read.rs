@@ -1,0 +1,170 @@
+//! The reader: rows 1 to 6; 7 for the offsets; then each vector in turn, 8,
+//! 7 for metadata, 9 to 12, 7 for data, 13; then 14, then 15.
+
+use crate::answer::{refuse, refuse_at, refuse_in, Fault, Outcome, Refusal};
+use crate::floats::Kind;
+use crate::layout::{self, number};
+use crate::write::check_pair;
+
+/// A page that has passed rows 1 to 14.
+pub struct Page {
+    pub s: u8,
+    pub count: usize,
+    pub vectors: Vec<Vector>,
+}
+
+/// A vector as it stands in the page.
+pub struct Vector {
+    pub exponent: u8,
+    pub factor: u8,
+    pub frame: i64,
+    pub width: usize,
+    pub fields: Vec<u64>,
+    pub unused_bit: bool,
+    pub positions: Vec<usize>,
+    pub exceptions: Vec<u64>,
+}
+
+impl Vector {
+    /// The whole numbers by the reading rule.
+    pub fn wholes(&self, kind: Kind) -> Vec<i64> {
+        self.fields.iter().map(|field| kind.plus(self.frame, *field)).collect()
+    }
+
+    /// The values: whole numbers brought back, listed positions overwritten.
+    pub fn values(&self, kind: Kind) -> Vec<u64> {
+        let mut values: Vec<u64> = self
+            .wholes(kind)
+            .into_iter()
+            .map(|whole| kind.back(whole, self.exponent.into(), self.factor.into()))
+            .collect();
+        for (position, value) in self.positions.iter().zip(&self.exceptions) {
+            values[*position] = *value;
+        }
+        values
+    }
+}
+
+/// Reads a page into the output, or refuses and leaves it as it came.
+pub fn read(kind: Kind, bytes: &[u8], output: &mut [u64]) -> Outcome {
+    let page = parse(kind, bytes)?;
+    if output.len() < page.count {
+        return refuse(Fault::OutputTooShort);
+    }
+    let values: Vec<u64> = page.vectors.iter().flat_map(|vector| vector.values(kind)).collect();
+    output[..page.count].copy_from_slice(&values);
+    Ok(page.count)
+}
+
+/// Rows 1 to 14 in document 01's order.
+pub fn parse(kind: Kind, bytes: &[u8]) -> Result<Page, Refusal> {
+    let (s, count) = parse_header(bytes)?;
+    let body = &bytes[layout::HEADER..];
+    let vectors = layout::vectors(count, s);
+    if body.len() < layout::OFFSET * vectors {
+        return refuse(Fault::OffsetsPastEnd);
+    }
+
+    let mut page = Page { s, count, vectors: Vec::new() };
+    let mut next = layout::OFFSET * vectors;
+    for v in 0..vectors {
+        let offset = number(&body[layout::OFFSET * v..layout::OFFSET * (v + 1)]);
+        if offset != next as u64 {
+            return refuse_in(Fault::WrongOffset, v);
+        }
+        let values = layout::values_in(v, count, s);
+        let (vector, size) = parse_vector(kind, &body[next..], values, v)?;
+        page.vectors.push(vector);
+        next += size;
+    }
+    if body.len() > next {
+        return refuse(Fault::BytesAfter);
+    }
+    Ok(page)
+}
+
+/// Rows 1 to 6: s and the count of values.
+fn parse_header(bytes: &[u8]) -> Result<(u8, usize), Refusal> {
+    if bytes.len() < layout::HEADER {
+        return refuse(Fault::FewBytes);
+    }
+    if bytes[0] != 1 {
+        return refuse(Fault::Version);
+    }
+    if bytes[1] != 0 {
+        return refuse(Fault::Mode);
+    }
+    if bytes[2] != 0 {
+        return refuse(Fault::IntegerEncoding);
+    }
+    if !layout::is_vector_size(bytes[3]) {
+        return refuse(Fault::VectorSize);
+    }
+    let count = number(&bytes[4..8]);
+    if count > layout::MOST_VALUES as u64 {
+        return refuse(Fault::TooManyValues);
+    }
+    Ok((bytes[3], count as usize))
+}
+
+/// Row 7 for metadata, 9 to 12, 7 for data, 13: the vector and its size.
+fn parse_vector(
+    kind: Kind,
+    rest: &[u8],
+    values: usize,
+    v: usize,
+) -> Result<(Vector, usize), Refusal> {
+    let data = layout::metadata(kind);
+    if rest.len() < data {
+        return refuse_in(Fault::MetadataPastEnd, v);
+    }
+    let (exponent, factor) = (rest[0], rest[1]);
+    let listed = number(&rest[2..4]) as usize;
+    // Read as signed, in the kind's bits.
+    let frame = kind.plus(0, number(&rest[4..4 + kind.size()]));
+    let width = usize::from(rest[4 + kind.size()]);
+
+    check_pair(kind, exponent, factor, v)?;
+    if listed > values {
+        return refuse_in(Fault::TooManyExceptions, v);
+    }
+    if width > kind.bits() {
+        return refuse_in(Fault::WidthAbove, v);
+    }
+    let size = layout::vector_bytes(kind, values, width, listed);
+    if rest.len() < size {
+        return refuse_in(Fault::DataPastEnd, v);
+    }
+
+    let list = data + layout::packed_bytes(values, width);
+    let patterns = list + layout::POSITION * listed;
+    let packed = &rest[data..list];
+    let positions = parse_positions(&rest[list..patterns], values, v)?;
+    let vector = Vector {
+        exponent,
+        factor,
+        frame,
+        width,
+        fields: layout::unpack(packed, values, width),
+        unused_bit: layout::unused_bit_set(packed, values, width),
+        positions,
+        exceptions: rest[patterns..size].chunks_exact(kind.size()).map(number).collect(),
+    };
+    Ok((vector, size))
+}
+
+/// Row 13: each position is below the count and above the one before.
+fn parse_positions(list: &[u8], values: usize, v: usize) -> Result<Vec<usize>, Refusal> {
+    let mut positions: Vec<usize> = Vec::new();
+    for (index, entry) in list.chunks_exact(layout::POSITION).enumerate() {
+        let position = number(entry) as usize;
+        if position >= values {
+            return refuse_at(Fault::PositionTooHigh, v, index);
+        }
+        if positions.last().is_some_and(|before| position <= *before) {
+            return refuse_at(Fault::PositionNotRising, v, index);
+        }
+        positions.push(position);
+    }
+    Ok(positions)
+}

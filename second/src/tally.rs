@@ -1,0 +1,101 @@
+//! Counts which answers were given by which call, and says which of document
+//! 01's rows were never met.
+
+use std::fmt::Write;
+
+use crate::answer::{Call, Outcome, CALLS, TABLE};
+use crate::floats::{Kind, KINDS};
+
+/// Counts of one line of the table, by call and kind.
+#[derive(Clone, Copy, Default)]
+struct Counts {
+    by: [[u64; 2]; 4],
+    /// How many of them named a vector other than the first.
+    later: [u64; 4],
+}
+
+pub struct Tally {
+    done: Counts,
+    refused: Vec<Counts>,
+}
+
+impl Default for Tally {
+    fn default() -> Tally {
+        Tally { done: Counts::default(), refused: vec![Counts::default(); TABLE.len()] }
+    }
+}
+
+impl Tally {
+    pub fn count(&mut self, call: Call, kind: Kind, outcome: Outcome) {
+        let (counts, vector) = match outcome {
+            Ok(_) => (&mut self.done, 0),
+            Err(refusal) => (&mut self.refused[refusal.fault as usize], refusal.vector),
+        };
+        counts.by[call as usize][kind as usize] += 1;
+        if vector > 0 {
+            counts.later[call as usize] += 1;
+        }
+    }
+
+    /// Every line that a call of a kind has never given though it should, and
+    /// every vector's line that it has given of no later vector.
+    pub fn missing(&self) -> Vec<String> {
+        let mut missing = Vec::new();
+        let done = (0, "done", &CALLS[..], false, &self.done);
+        let lines = TABLE.iter().zip(&self.refused);
+        let refused = lines.map(|(l, counts)| (l.row, l.text, l.given_by, l.of_vector, counts));
+        for (row, text, given_by, of_vector, counts) in std::iter::once(done).chain(refused) {
+            for call in given_by {
+                for kind in KINDS {
+                    if counts.by[*call as usize][kind as usize] == 0 {
+                        let (call, bits) = (call.name(), kind.bits());
+                        missing.push(format!("row {row} ({text}) by {call}, {bits}-bit"));
+                    }
+                }
+                if of_vector && counts.later[*call as usize] == 0 {
+                    missing
+                        .push(format!("row {row} ({text}) by {} of a later vector", call.name()));
+                }
+            }
+        }
+        missing
+    }
+
+    /// The table of counts, as a person reads it.
+    pub fn table(&self) -> String {
+        let mut text = format!("{:>3}  {:<32}", "row", "given when");
+        for call in CALLS {
+            for kind in KINDS {
+                let _ = write!(text, "{:>10}", format!("{}{}", call.name(), kind.bits()));
+            }
+        }
+        let _ = writeln!(text, "{:>14}", "later vectors");
+        push_line(&mut text, 0, "done", &CALLS, None, &self.done);
+        for (line, counts) in TABLE.iter().zip(&self.refused) {
+            let later = line.of_vector.then(|| counts.later.iter().sum());
+            push_line(&mut text, line.row, line.text, line.given_by, later, counts);
+        }
+        text
+    }
+}
+
+/// One line; a dash where document 01 gives the row to another call.
+fn push_line(
+    text: &mut String,
+    row: u64,
+    when: &str,
+    given_by: &[Call],
+    later: Option<u64>,
+    counts: &Counts,
+) {
+    let _ = write!(text, "{row:>3}  {when:<32}");
+    for call in CALLS {
+        for kind in KINDS {
+            let count = counts.by[call as usize][kind as usize];
+            let cell = if given_by.contains(&call) { count.to_string() } else { "-".into() };
+            let _ = write!(text, "{cell:>10}");
+        }
+    }
+    let later = later.map_or("-".into(), |later| later.to_string());
+    let _ = writeln!(text, "{later:>14}");
+}

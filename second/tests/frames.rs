@@ -1,0 +1,74 @@
+//! The serving side over bytes in memory: sound requests, requests that
+//! break the shape, and an input that ends.
+
+use second::floats::Kind;
+use second::frames::{serve, Request};
+
+/// All that the serving side says to an input.
+fn said(input: &[u8]) -> Vec<u8> {
+    let mut output = Vec::new();
+    serve(&mut &input[..], &mut output).expect("memory doesn't fail");
+    output
+}
+
+fn numbers(number: u64, vector: u64, place: u64) -> Vec<u8> {
+    [number, vector, place].map(u64::to_le_bytes).concat()
+}
+
+/// 7.0, 7.0 as singles: a page of 21 bytes into a bound of 41.
+fn write_request() -> Request {
+    Request::Write {
+        kind: Kind::Single,
+        s: 10,
+        values: vec![0x40E0_0000, 0x40E0_0000],
+        pairs: vec![0, 0],
+        output: vec![0xA5; 41],
+    }
+}
+
+const PAGE: [u8; 21] = [1, 0, 0, 10, 2, 0, 0, 0, 4, 0, 0, 0, 0, 0, 0, 0, 7, 0, 0, 0, 0];
+
+#[test]
+fn a_request_has_the_documented_bytes() {
+    let wanted = [
+        &[2, 32, 10, 0, 2, 0, 0, 0, 2, 0, 0, 0, 41, 0, 0, 0][..],
+        &[0, 0, 0xE0, 0x40, 0, 0, 0xE0, 0x40],
+        &[0, 0],
+        &[0xA5; 41],
+    ];
+    assert_eq!(write_request().to_bytes(), wanted.concat());
+}
+
+#[test]
+fn an_answer_carries_the_whole_output() {
+    let wanted = [&numbers(0, 0, 21)[..], &PAGE, &[0xA5; 20]].concat();
+    assert_eq!(said(&write_request().to_bytes()), wanted);
+
+    let read = Request::Read { kind: Kind::Single, page: PAGE.to_vec(), output: vec![9, 9, 9] };
+    let examine = Request::Examine { kind: Kind::Single, page: PAGE[..20].to_vec() };
+    let input = [read.to_bytes(), examine.to_bytes()].concat();
+    let values = [0, 0, 0xE0, 0x40, 0, 0, 0xE0, 0x40, 9, 0, 0, 0];
+    assert_eq!(said(&input), [&numbers(0, 0, 2)[..], &values, &numbers(7, 0, 0)].concat());
+}
+
+#[test]
+fn a_refusal_carries_the_output_as_it_came() {
+    let read = Request::Read { kind: Kind::Single, page: PAGE.to_vec(), output: vec![9] };
+    assert_eq!(said(&read.to_bytes()), [&numbers(15, 0, 0)[..], &[9, 0, 0, 0]].concat());
+}
+
+#[test]
+fn what_breaks_the_shape_gets_255_and_ends() {
+    let good = write_request().to_bytes();
+    let no = numbers(255, 0, 0);
+    for (at, byte) in [(0, 0), (0, 5), (1, 31), (3, 1), (6, 1), (9, 255), (14, 255)] {
+        let mut bad = good.clone();
+        bad[at] = byte;
+        bad.extend(&good);
+        assert_eq!(said(&bad), no, "byte {at} as {byte}");
+    }
+    for keep in 1..good.len() {
+        assert_eq!(said(&good[..keep]), no, "cut to {keep} bytes");
+    }
+    assert_eq!(said(&[]), []);
+}
