@@ -47,13 +47,20 @@ leaves (refused b q) out room = record {
   same-length = refl;
 }
 
--- where a call's answer has the number 0 it is done, and its place is the count of what it gives
-pub place-when-done : (r : Result) (numbers : List ℕ) → T (not (among 0 numbers)) → ((a : ℕ) (p : Point) → r ≡ refused a p → T (among a numbers))
-    → (a : Answer) → a ≡ answer r → a .number ≡ 0 → {n : ℕ} → ((xs : List ℕ) → r ≡ done xs → length xs ≡ n) → a .place ≡ n
-place-when-done (done xs) numbers never table a is zero count = ap (λ (x : Answer). x .place) is ∙ count xs refl
-place-when-done (refused b p) numbers never table a is zero count =
+-- a call whose answer has the number 0 is done
+pub done-when-zero : (r : Result) (numbers : List ℕ) → T (not (among 0 numbers)) → ((a : ℕ) (p : Point) → r ≡ refused a p → T (among a numbers))
+    → (a : Answer) → a ≡ answer r → a .number ≡ 0 → (xs : List ℕ) × (r ≡ done xs)
+done-when-zero (done xs) numbers never table a is zero = (xs, refl)
+done-when-zero (refused b p) numbers never table a is zero =
     let b-is : b ≡ 0 = sym (ap (λ (x : Answer). x .number) is) ∙ zero in
     absurd (T-not (among 0 numbers) never (subst (λ (x : ℕ). T (among x numbers)) b-is (table b p refl)))
+
+-- and its place is the count of what it gives
+pub place-when-done : (r : Result) (numbers : List ℕ) → T (not (among 0 numbers)) → ((a : ℕ) (p : Point) → r ≡ refused a p → T (among a numbers))
+    → (a : Answer) → a ≡ answer r → a .number ≡ 0 → {n : ℕ} → ((xs : List ℕ) → r ≡ done xs → length xs ≡ n) → a .place ≡ n
+place-when-done r numbers never table a is zero count =
+    let d = done-when-zero r numbers never table a is zero in
+    ap (λ (x : Answer). x .place) (is ∙ ap answer (d .1)) ∙ count (d .0) (d .1)
 
 -- ---- measuring
 

@@ -1,36 +1,28 @@
 -- Demand 3 of the calls themselves, one after the other: what is written is accepted, what is accepted is read, and what was read is
 -- written again to the same bytes. Each call is known by its record alone, lent its buffers as the last one left them. Assumes nothing.
-use mathlib.Core.Path.{_≡_, refl, sym, ap, ap₂, _∙_, subst}
-use mathlib.Core.Bool.{not}
+use mathlib.Core.Path.{_≡_, sym, ap, ap₂, _∙_, subst}
 use mathlib.Core.List.{List}
 use Prim.Native.Nat.{ℕ, _*_, _≤_}
 use lib.ListN.{length, take, drop}
 use lib.Seq.{take-append-seam}
-use lib.Dec.{T, T-not}
 use lib.Ieee.{Format}
 use Rattle.digits.specs.Lists.{over}
 use Rattle.rules.specs.Kind.{Bytes, Values}
 use Rattle.rules.specs.Decimal.{Pair}
 use Rattle.rules.specs.Page.{pageOf}
-use Rattle.rules.specs.Verdict.{Point, Result, done, refused, answer, after, done-with}
+use Rattle.rules.specs.Verdict.{Result, done, answer, after, done-with}
 use Rattle.rules.specs.Read.{readOf}
 use Rattle.rules.specs.Examine.{examineOf}
 use Rattle.rules.specs.Write.{pairsOf, pairBytes, Inside, PageOf, bound, writeOf}
-use Rattle.rules.specs.Calls.{Written, Read, Examined, among, given-by-writer, given-by-examiner}
+use Rattle.rules.specs.Calls.{Written, Read, Examined, given-by-writer, given-by-examiner}
 use Rattle.rules.specs.declared.Answer.{Answer}
 use Rattle.rules.proofs.Settings.{pairs-back, length-pairBytes}
+use Rattle.theorems.proofs.Called.{done-when-zero}
 use Rattle.theorems.proofs.Done.{writer-done, page-when-done}
 use Rattle.theorems.proofs.OnePage.{page-is-accepted}
 use Rattle.theorems.proofs.Demands.{writer-answers, examiner-answers, demand-3}
 
--- a call whose answer has the number 0 is done
-done-with-something : (r : Result) (numbers : List ℕ) → T (not (among 0 numbers)) → ((a : ℕ) (p : Point) → r ≡ refused a p → T (among a numbers))
-    → (a : Answer) → a ≡ answer r → a .number ≡ 0 → (xs : List ℕ) × (r ≡ done xs)
-done-with-something (done xs) numbers never table a is zero = (xs, refl)
-done-with-something (refused b p) numbers never table a is zero =
-    absurd (T-not (among 0 numbers) never (subst (λ (x : ℕ). T (among x numbers)) (sym (ap (λ (x : Answer). x .number) is) ∙ zero) (table b p refl)))
-
--- and has its output in front
+-- a call that is done has its output in front
 module _ (r : Result) (xs out : List ℕ) (e : r ≡ done xs) (a : Answer) (is : a ≡ answer r) (end : List ℕ) (left : end ≡ after r out) where
   answer-is-done : a ≡ done-with (length xs)
   answer-is-done = is ∙ ap answer e
@@ -47,7 +39,7 @@ module _ (fmt : Format) where
       → Written fmt values s pairs out w end → w .number ≡ 0 → Examined fmt (take (w .place) end) x → x ≡ done-with (length values)
   write-then-examine values s pairs out w end x ok written zero examined =
       let r = writeOf fmt s pairs values (length out) in
-      let d = done-with-something r given-by-writer tt (writer-answers fmt s pairs values (length out) .of-the-table) w (written .answer-is) zero in
+      let d = done-when-zero r given-by-writer tt (writer-answers fmt s pairs values (length out) .of-the-table) w (written .answer-is) zero in
       let page = page-when-done fmt s pairs values (length out) (d .0) (d .1) in
       let bytes : take (w .place) end ≡ pageOf fmt s (pairsOf pairs) values = front-is r (d .0) out (d .1) w (written .answer-is) end (written .output-is) ∙ page .1 in
       examined .answer-is ∙ ap (λ (bs : List ℕ). answer (examineOf fmt bs)) bytes ∙ ap answer (page-is-accepted fmt s (pairsOf pairs) values (page .0) ok)
@@ -57,7 +49,7 @@ module _ (fmt : Format) where
     -- the values that the page holds are read, to the front of the output
     pub examine-then-read : (vs : List ℕ) × (s : ℕ) × (ps : List Pair) × PageOf fmt page s ps vs × (r ≡ done-with (length vs)) × (end ≡ over vs out)
     examine-then-read =
-        let d = done-with-something (examineOf fmt page) given-by-examiner tt (examiner-answers fmt page .of-the-table) x (examined .answer-is) zero in
+        let d = done-when-zero (examineOf fmt page) given-by-examiner tt (examiner-answers fmt page .of-the-table) x (examined .answer-is) zero in
         let vs = d .0 in
         let holds = demand-3 fmt page bytes .accepts vs .0 (d .1) in
         let fits : length vs ≤ length out = subst (λ (n : ℕ). n ≤ length out) (ap (λ (a : Answer). a .place) (examined .answer-is ∙ ap answer (d .1))) room in
