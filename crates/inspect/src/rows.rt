@@ -130,9 +130,8 @@ pub fn check_needless32(lists: &[u8], k: Vector32) -> Check
     Check::Fine
 }
 
-// The stand-in: the first unlisted whole number, or 0 if all are listed. Up to it every position is listed, so position i is the list's
-
-// i-th if it is listed at all.
+// The stand-in: the first unlisted whole number, or 0 if all are listed. Up to it every position is listed: position i, if listed, is
+// the list's i-th.
 pub fn stand_in64(packed: &[u8], lists: &[u8], k: Vector64) -> u64
     requires { ⌜ FieldsLaid64 k (now packed) × ListsLaid64 k (now lists) ⌝ }
     ensures { λ r. ⌜ toZ w64 r ≡ standInAs binary64 (seen64 k (now (packed .entry)) (now (lists .entry))) ⌝ }
