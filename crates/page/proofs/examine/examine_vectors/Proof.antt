@@ -32,7 +32,7 @@ use Rattle.inspect.proofs.vector.inspect_vector.Reads as inspect-vector-reads
 
 abbrev Inv-loop : tie.InvT-loop
 Inv-loop page kind s size many v₀ at₀ left₀ v at left =
-    (v ≤ many) × (8 + at ≤ length page) × (verdict (vectors-left (formatOf kind) page size many v at left) ≡ fine)
+    (8 + at ≤ length page) × (verdict (vectors-left (formatOf kind) page size many v at left) ≡ fine)
     × (verdict (allRulesRows (formatOf kind) 0 (rawsOf (formatOf kind) page)) ≡ verdict (allRulesRows (formatOf kind) v (raws-left (formatOf kind) page size many v at left)))
 
 abbrev μ-loop : tie.MeasureT-loop
@@ -56,7 +56,7 @@ layout : (c : Counted) (k : ℕ) → k ≡ vectorSize (fmt-at c) (c .least .resu
     × (verdict (vectors-left (fmt-at c) (page-at c) (c .before .before .before .before .before .before .size-of .result) (c .before .before .before .before .before .vectors-in .result) (c .before .before .before .loop .v + 1) (c .before .before .before .loop .at + k) (c .before .before .before .loop .left - c .least .result)) ≡ fine)
 layout c k ek =
     let l = c .before .before .before .loop in
-    layout-turn (fmt-at c) (page-at c) (part-at c) (c .before .before .before .before .before .before .size-of .result) (c .before .before .before .before .before .vectors-in .result) (l .v) (l .at) (l .left) (c .least .result) k (c .before .before .loop-test .taken) (lent-is (8 + l .at) (page-at c)) (c .least .ensures) ek (l .inv .2)
+    layout-turn (fmt-at c) (page-at c) (part-at c) (c .before .before .before .before .before .before .size-of .result) (c .before .before .before .before .before .vectors-in .result) (l .v) (l .at) (l .left) (c .least .result) k (c .before .before .loop-test .taken) (lent-is (8 + l .at) (page-at c)) (c .least .ensures) ek (l .inv .1)
 
 -- the rules' rows of all vectors are those of this one, then those of the vectors behind it
 turn : (c : Counted) (k : ℕ) → k ≡ vectorSize (fmt-at c) (c .least .result) (metaAt (fmt-at c) (part-at c))
@@ -64,7 +64,7 @@ turn : (c : Counted) (k : ℕ) → k ≡ vectorSize (fmt-at c) (c .least .result
     ≡ first (verdict (rulesRows (fmt-at c) (c .before .before .before .loop .v) (rawFrom (fmt-at c) (c .least .result) (metaAt (fmt-at c) (part-at c)) (drop (metaBytes (fmt-at c)) (part-at c))))) (verdict (allRulesRows (fmt-at c) (c .before .before .before .loop .v + 1) (raws-left (fmt-at c) (page-at c) (c .before .before .before .before .before .before .size-of .result) (c .before .before .before .before .before .vectors-in .result) (c .before .before .before .loop .v + 1) (c .before .before .before .loop .at + k) (c .before .before .before .loop .left - c .least .result))))
 turn c k ek =
     let l = c .before .before .before .loop in
-    rules-turn (fmt-at c) (page-at c) (part-at c) (c .before .before .before .before .before .before .size-of .result) (c .before .before .before .before .before .vectors-in .result) (l .v) (l .at) (l .left) (c .least .result) k (c .before .before .loop-test .taken) (lent-is (8 + l .at) (page-at c)) (c .least .ensures) ek _ (l .inv .3)
+    rules-turn (fmt-at c) (page-at c) (part-at c) (c .before .before .before .before .before .before .size-of .result) (c .before .before .before .before .before .vectors-in .result) (l .v) (l .at) (l .left) (c .least .result) k (c .before .before .loop-test .taken) (lent-is (8 + l .at) (page-at c)) (c .least .ensures) ek _ (l .inv .2)
 
 -- where its size is known: that size by the rules, and that it ends inside the page
 size-is : (c : tie.After-vector-size Inv-loop μ-loop) → c .vector-size .result ≡ vectorSize (fmt-at (c .before .before .before .before .before)) (c .before .before .before .before .before .least .result) (metaAt (fmt-at (c .before .before .before .before .before)) (part-at (c .before .before .before .before .before)))
@@ -105,7 +105,7 @@ loop-holds c =
     let room = page-fine fmt page (c .before .before .before .before .before .pre) .0 .offsets in
     let size = c .before .before .size-of .ensures .0 ∙ ap (λ (x : ℕ). 2 ^ x) (c .before .before .before .s-of .ensures) in
     let many = c .before .vectors-in .ensures .0 in
-    (omega arith, omega (arith, room, many), layout-start fmt page (c .before .before .size-of .result) (c .before .vectors-in .result) (c .count-of .result) size many (c .count-of .ensures .0) (c .before .before .before .before .before .pre), rules-start fmt page (c .before .before .size-of .result) (c .before .vectors-in .result) (c .count-of .result) size many (c .count-of .ensures .0))
+    (omega (arith, room, many), layout-start fmt page (c .before .before .size-of .result) (c .before .vectors-in .result) (c .count-of .result) size many (c .count-of .ensures .0) (c .before .before .before .before .before .pre), rules-start fmt page (c .before .before .size-of .result) (c .before .vectors-in .result) (c .count-of .result) size many (c .count-of .ensures .0))
 
 -- src/examine.rt:35:20
 add-from : tie.Need-add-from Inv-loop μ-loop
@@ -169,14 +169,14 @@ loop-less c = search needs
 -- src/examine.rt:34:5
 loop-again : tie.Need-loop-again Inv-loop μ-loop
 loop-again c =
-    (omega arith, inside c, layout (c .before .before .before .before .before) (c .vector-size .result) (size-is c) .1, continues (c .before .before .before .before .inspect-vector .result) _ (c .before .before .before .before .inspect-vector .ensures) _ _ (c .before .before .enum-told .given .1) (turn (c .before .before .before .before .before) (c .vector-size .result) (size-is c)))
+    (inside c, layout (c .before .before .before .before .before) (c .vector-size .result) (size-is c) .1, continues (c .before .before .before .before .inspect-vector .result) _ (c .before .before .before .before .inspect-vector .ensures) _ _ (c .before .before .enum-told .given .1) (turn (c .before .before .before .before .before) (c .vector-size .result) (size-is c)))
 
 -- src/examine.rt:24:1
 returns-2 : tie.Need-returns-2 Inv-loop μ-loop
 returns-2 c =
     let l = c .before .loop in
     let a = c .before .before .before .before .before .before .before .args in
-    rules-end (formatOf (a .kind)) (now (a .page)) (c .before .before .before .before .size-of .result) (c .before .before .before .vectors-in .result) (l .v) (l .at) (l .left) _ (l .inv .3) (c .loop-test .left)
+    rules-end (formatOf (a .kind)) (now (a .page)) (c .before .before .before .before .size-of .result) (c .before .before .before .vectors-in .result) (l .v) (l .at) (l .left) _ (l .inv .2) (c .loop-test .left)
 
 pub examine-vectors-spec : {M : Type 1} → statement M
 examine-vectors-spec =
