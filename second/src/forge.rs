@@ -478,9 +478,13 @@ fn too_large(kind: Kind, random: &mut Random) -> i64 {
     }
 }
 
-/// Puts a whole number at an unlisted position; the stand-ins follow, so
-/// that nothing else is wrong.
-fn put_unlisted(draft: &mut Draft, random: &mut Random, whole: i64) {
+/// Changes a vector at one of its unlisted positions, if it has one; the
+/// stand-ins follow, so that nothing else is wrong.
+fn at_unlisted(
+    draft: &mut Draft,
+    random: &mut Random,
+    change: impl FnOnce(&mut Part, Kind, usize),
+) {
     let kind = draft.kind;
     let vector = draft.any(random);
     let unlisted = vector.unlisted();
@@ -488,22 +492,23 @@ fn put_unlisted(draft: &mut Draft, random: &mut Random, whole: i64) {
         return;
     }
     let position = *random.choose(&unlisted);
-    vector.put(kind, &[position as u16], whole);
+    change(vector, kind, position);
     vector.settle(kind);
+}
+
+/// Puts a whole number at an unlisted position.
+fn put_unlisted(draft: &mut Draft, random: &mut Random, whole: i64) {
+    at_unlisted(draft, random, |vector, kind, position| {
+        vector.put(kind, &[position as u16], whole);
+    });
 }
 
 /// Lists a value that needs no listing.
 fn needless(draft: &mut Draft, random: &mut Random) {
-    let kind = draft.kind;
-    let vector = draft.any(random);
-    let unlisted = vector.unlisted();
-    if unlisted.is_empty() {
-        return;
-    }
-    let position = *random.choose(&unlisted);
-    let whole = vector.wholes(kind)[position];
-    vector.list(position, vector.back(kind, whole));
-    vector.settle(kind);
+    at_unlisted(draft, random, |vector, kind, position| {
+        let whole = vector.wholes(kind)[position];
+        vector.list(position, vector.back(kind, whole));
+    });
 }
 
 /// Moves the frame and keeps the whole numbers: the fields take up the
