@@ -2,8 +2,8 @@
 use mathlib.Core.Path.{_≡_, refl, sym, ap, ap₂, _∙_}
 use mathlib.Core.Bool.{not, _||_}
 use mathlib.Core.List.{List, [], _∷_}
-use Prim.Native.Nat.{ℕ, suc, _+_, _-_, _*_, _^_, _≤_, _<_, min}
-use native.Mathlib.Nat.{sub-zero, mul-suc, add-assoc, mul-zero, add-zero}
+use Prim.Native.Nat.{ℕ, _+_, _-_, _*_, _^_, _≤_, _<_, min}
+use native.Mathlib.Nat.{add-assoc}
 use native.Mathlib.Numerals.{add-one}
 use native.Mathlib.Omega.{arith}
 use lib.ListN.{length, take, drop, length-drop}
@@ -11,34 +11,15 @@ use lib.Seq.{drop-drop}
 use lib.Ieee.{Format}
 use borrow.Author.Tests.{lt-ltb, le-ltb}
 use Rattle.digits.specs.Digits.{number, numbers, packedSize}
+use Rattle.digits.proofs.Rows.{numbers-at, numbers-start, numbers-end}
 use Rattle.rules.specs.Kind.{metaBytes}
 use Rattle.rules.specs.Page.{Meta, sOf, countOf, vectorsOf, offsetsOf, bodyOf, vectorSize, metaAt, rawFrom, rawsFrom, rawsOf}
 use Rattle.rules.specs.Verdict.{Rows, row, Verdict, fine, refuse, first, verdict, the-page, in-vector-at, _above_, _below_}
-use Rattle.rules.specs.Read.{start, positionsRows, listRows, vectorRows, vectorsRows}
+use Rattle.rules.specs.Read.{start, positionsRows, listRows, vectorRows, vectorsRows, pageRows}
 use Rattle.rules.specs.Vector.{Raw}
 use Rattle.rules.proofs.Rows.{first-fine}
-use Rattle.rules.proofs.Reading.{Passed, vector-fine}
+use Rattle.rules.proofs.Reading.{Passed, vector-fine, page-fine}
 use Rattle.checks.specs.Forms.{no-position}
-
--- ---- numbers in a row: the one at place i, and those behind it
-
-pub numbers-at : (k many i at : ℕ) (bs : List ℕ) → i < many
-    → numbers k (many - i) (drop (at + k * i) bs) ≡ number (take k (drop (at + k * i) bs)) ∷ numbers k (many - (i + 1)) (drop (at + k * (i + 1)) bs)
-unfolding numbers
-numbers-at k many i at bs h =
-    let c : many - i ≡ suc (many - (i + 1)) = omega arith in
-    let e : at + k * i + k ≡ at + k * (i + 1) = add-assoc at (k * i) k ∙ ap (λ (x : ℕ). at + x) (sym (mul-suc k i) ∙ ap (λ (x : ℕ). k * x) (sym (add-one i))) in
-    let d : drop k (drop (at + k * i) bs) ≡ drop (at + k * (i + 1)) bs = drop-drop k (at + k * i) bs ∙ ap (λ (x : ℕ). drop x bs) e in
-    ap (λ (x : ℕ). numbers k x (drop (at + k * i) bs)) c ∙ ap (λ (x : List ℕ). number (take k (drop (at + k * i) bs)) ∷ numbers k (many - (i + 1)) x) d
-
-pub numbers-end : (k many i : ℕ) (bs : List ℕ) → many ≤ i → numbers k (many - i) bs ≡ []
-unfolding numbers
-numbers-end k many i bs h = let c : many - i ≡ 0 = omega arith in ap (λ (x : ℕ). numbers k x bs) c
-
-pub numbers-start : (k many at : ℕ) (bs : List ℕ) → numbers k many (drop at bs) ≡ numbers k (many - 0) (drop (at + k * 0) bs)
-numbers-start k many at bs =
-    let e : drop (at + k * 0) bs ≡ drop at bs = ap (λ (x : ℕ). drop (at + x) bs) (mul-zero k) ∙ ap (λ (x : ℕ). drop x bs) (add-zero at) in
-    ap₂ (λ (x : ℕ) (y : List ℕ). numbers k x y) (sym (sub-zero many)) (sym e)
 
 -- ---- row 13
 
@@ -132,6 +113,10 @@ vectors-start fmt page size many left es em el =
 -- the vectors from number v on, as the rules read them
 abbrev pub raws-left : Format → List ℕ → ℕ → ℕ → ℕ → ℕ → ℕ → List Raw
 raws-left fmt page size many v at left = rawsFrom fmt size left (numbers 4 (many - v) (drop (8 + 4 * v) page)) (drop (8 + at) page)
+
+pub vectors-passed-start : (fmt : Format) (page : List ℕ) (size many left : ℕ) → size ≡ 2 ^ sOf page → many ≡ vectorsOf page → left ≡ countOf page
+    → verdict (pageRows fmt page) ≡ fine → verdict (vectors-left fmt page size many 0 (4 * many) left) ≡ fine
+vectors-passed-start fmt page size many left es em el ok = sym (vectors-start fmt page size many left es em el) ∙ page-fine fmt page ok .1
 
 pub raws-start : (fmt : Format) (page : List ℕ) (size many left : ℕ) → size ≡ 2 ^ sOf page → many ≡ vectorsOf page → left ≡ countOf page
     → rawsOf fmt page ≡ raws-left fmt page size many 0 (4 * many) left

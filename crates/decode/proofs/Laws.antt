@@ -9,7 +9,7 @@ use lib.Seq.{drop-drop}
 use lib.Ieee.{Format}
 use Rattle.digits.specs.Digits.{number, numbers, packedSize, unpack}
 use Rattle.digits.specs.Lists.{Each}
-use Rattle.digits.proofs.Rows.{length-numbers}
+use Rattle.digits.proofs.Rows.{length-numbers, numbers-at, numbers-start, numbers-end}
 use Rattle.rules.specs.Kind.{metaBytes, wordBytes}
 use Rattle.rules.specs.Decimal.{Pair, back}
 use Rattle.rules.specs.Vector.{Raw, fields, wholes, decoded}
@@ -23,7 +23,6 @@ use Rattle.decimal.specs.Turn.{turned}
 use Rattle.decimal.proofs.Turns.{turned-fields}
 use Rattle.checks.specs.Forms.{asMeta}
 use Rattle.checks.specs.declared.vector.Meta.{Meta}
-use Rattle.checks.proofs.Turns.{numbers-at, numbers-end, numbers-start}
 use Rattle.decode.specs.Readable.{Readable, valuesAt}
 
 -- ---- the listed values: positions of 2 bytes from `at` on, values of k bytes from `behind` on

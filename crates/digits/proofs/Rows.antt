@@ -1,12 +1,12 @@
 -- Little-endian numbers, one and several in a row: written and read back, read and written back. Assumes nothing.
 use mathlib.Core.Path.{_≡_, refl, sym, ap, ap₂, _∙_}
-use Prim.Native.Nat.{ℕ, zero, suc, _+_, _*_, _/_, _%_, _^_, _<_, _≤_}
-use native.Mathlib.Nat.{suc-mul, zero-mul, add-comm, mod-eq-of-lt}
+use Prim.Native.Nat.{ℕ, zero, suc, _+_, _-_, _*_, _/_, _%_, _^_, _<_, _≤_}
+use native.Mathlib.Nat.{suc-mul, zero-mul, mul-suc, mul-zero, add-comm, add-assoc, add-zero, sub-zero, mod-eq-of-lt, le-of-suc-le-suc}
 use native.Mathlib.Numerals.{add-one}
 use native.Mathlib.Omega.{arith}
 use mathlib.Core.List.{List, [], _∷_, _++_, append-assoc}
-use lib.ListN.{length, take, drop, set, length-append, length-drop}
-use lib.Seq.{take-at, drop-at, take-add, length-take-le}
+use lib.ListN.{length, getD, take, drop, set, length-append, length-drop}
+use lib.Seq.{take-at, drop-at, drop-drop, take-add, length-take-le}
 use lib.Dec.{lit<}
 use Rattle.digits.specs.Lists.{Each, putAt}
 use Rattle.digits.specs.Digits.{toDigits, ofDigits, le, number, les, numbers}
@@ -94,3 +94,35 @@ numbers-lt k zero bs l h = tt
 numbers-lt k (suc c) bs l h =
     let r = rest-room k c bs l in
     (front-lt k bs (r .0) h, numbers-lt k c (drop k bs) (r .1) (each-drop (λ (b : ℕ). b < 256) k bs h))
+
+-- ---- numbers read one after the other: the one at place i, and those behind it
+
+pub numbers-next : (k many i at : ℕ) (bs : List ℕ) → i < many → numbers k (many - i) (drop at bs) ≡ number (take k (drop at bs)) ∷ numbers k (many - (i + 1)) (drop (at + k) bs)
+unfolding numbers
+numbers-next k many i at bs h =
+    let c : many - i ≡ suc (many - (i + 1)) = omega arith in
+    ap (λ (x : ℕ). numbers k x (drop at bs)) c ∙ ap (λ (x : List ℕ). number (take k (drop at bs)) ∷ numbers k (many - (i + 1)) x) (drop-drop k at bs)
+
+pub numbers-at : (k many i at : ℕ) (bs : List ℕ) → i < many
+    → numbers k (many - i) (drop (at + k * i) bs) ≡ number (take k (drop (at + k * i) bs)) ∷ numbers k (many - (i + 1)) (drop (at + k * (i + 1)) bs)
+numbers-at k many i at bs h =
+    let e : at + k * i + k ≡ at + k * (i + 1) = add-assoc at (k * i) k ∙ ap (λ (x : ℕ). at + x) (sym (mul-suc k i) ∙ ap (λ (x : ℕ). k * x) (sym (add-one i))) in
+    numbers-next k many i (at + k * i) bs h ∙ ap (λ (x : ℕ). number (take k (drop (at + k * i) bs)) ∷ numbers k (many - (i + 1)) (drop x bs)) e
+
+pub numbers-end : (k many i : ℕ) (bs : List ℕ) → many ≤ i → numbers k (many - i) bs ≡ []
+unfolding numbers
+numbers-end k many i bs h = let c : many - i ≡ 0 = omega arith in ap (λ (x : ℕ). numbers k x bs) c
+
+pub numbers-start : (k many at : ℕ) (bs : List ℕ) → numbers k many (drop at bs) ≡ numbers k (many - 0) (drop (at + k * 0) bs)
+numbers-start k many at bs =
+    let e : drop (at + k * 0) bs ≡ drop at bs = ap (λ (x : ℕ). drop (at + x) bs) (mul-zero k) ∙ ap (λ (x : ℕ). drop x bs) (add-zero at) in
+    ap₂ (λ (x : ℕ) (y : List ℕ). numbers k x y) (sym (sub-zero many)) (sym e)
+
+-- the number at place j
+pub getD-numbers : (k c : ℕ) (bs : List ℕ) (j : ℕ) → j < c → getD (numbers k c bs) j 0 ≡ number (take k (drop (k * j) bs))
+unfolding numbers
+getD-numbers k zero bs j h = absurd (omega arith)
+getD-numbers k (suc c) bs zero h = ap (λ (x : ℕ). number (take k (drop x bs))) (sym (mul-zero k))
+getD-numbers k (suc c) bs (suc j) h =
+    getD-numbers k c (drop k bs) j (le-of-suc-le-suc h)
+    ∙ ap (λ (x : List ℕ). number (take k x)) (drop-drop (k * j) k bs ∙ ap (λ (x : ℕ). drop x bs) (add-comm k (k * j) ∙ sym (mul-suc k j)))

@@ -4,8 +4,8 @@ use mathlib.Core.Path.{_≡_, refl, sym, ap, ap₂, _∙_, subst}
 use mathlib.Core.Bool.{Bool, true, false, not, _||_, cond}
 use mathlib.Core.Option.{Option, none, some}
 use Prim.Native.Nat.{ℕ, _+_, _*_, _^_, _<_}
-use lib.Dec.{T, eqb}
-use lib.IntN.{ℤ, pos, negsuc}
+use lib.Dec.{eqb}
+use lib.IntN.{ℤ}
 use lib.Signed.{leZ}
 use lib.Ieee.{Format, size}
 use mir.Syntax.{Width}
@@ -17,26 +17,17 @@ use native.Mathlib.Nat.{mul-comm}
 use lib.ListN.{getD, take, drop}
 use lib.Seq.{drop-drop}
 use Rattle.digits.specs.Digits.{number, numbers}
+use Rattle.digits.proofs.Rows.{getD-numbers}
 use Rattle.rules.specs.Kind.{word}
 use Rattle.rules.specs.Decimal.{Pair, exception, tried, back}
 use Rattle.rules.specs.Vector.{Raw, lesser, least, greatest, widthOf, fields, wholes}
 use Rattle.rules.specs.Verdict.{fine, refuse, verdict, row, in-vector, _isnt_}
 use Rattle.rules.specs.Examine.{eqZ, isOther, strays, needless, unfilled, frameOff, widthOff}
+use Rattle.rules.proofs.Rows.{eqZ-refl, eqZ-true}
 use Rattle.rules.proofs.Tries.{tried-some, some-kept, none-excepted}
 use Rattle.inspect.specs.Seen.{markOf}
-use Rattle.inspect.proofs.Steps.{getD-numbers}
 
 -- ---- equal whole numbers, equal words
-
-eqZ-refl : (z : ℤ) → eqZ z z ≡ true
-eqZ-refl (pos n) = eq-eqb n n refl
-eqZ-refl (negsuc n) = eq-eqb n n refl
-
-eqZ-true : (a b : ℤ) → eqZ a b ≡ true → a ≡ b
-eqZ-true (pos a) (pos b) e = ap pos (eqb-true a b e)
-eqZ-true (pos a) (negsuc b) e = absurd (subst T (sym e) tt)
-eqZ-true (negsuc a) (pos b) e = absurd (subst T (sym e) tt)
-eqZ-true (negsuc a) (negsuc b) e = ap negsuc (eqb-true a b e)
 
 same-words : (w : Width) (m n : ℕ) → m < 2 ^ bits w → n < 2 ^ bits w → eqb m n ≡ eqZ (toZ w m) (toZ w n)
 same-words w m n hm hn = go (eqb m n) (eqZ (toZ w m) (toZ w n)) refl refl

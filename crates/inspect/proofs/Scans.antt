@@ -7,7 +7,7 @@ use mathlib.Core.Option.{Option}
 use Prim.Native.Nat.{ℕ, _+_, _*_, _^_, _≤_, _<_, max}
 use native.Mathlib.Numerals.{add-one}
 use native.Mathlib.Omega.{arith}
-use lib.ListN.{length, getD, drop}
+use lib.ListN.{length, getD, drop, drop-of-length-le}
 use lib.IntN.{ℤ, pos}
 use lib.Ieee.{Format, binary32, binary64}
 use Rattle.digits.specs.Digits.{number, unpack}
@@ -25,7 +25,7 @@ use Rattle.digits.proofs.Laws.{to-below}
 use Rattle.rules.proofs.Order.{lesser-cases, greatest-lt}
 use Rattle.rules.proofs.Decoded.{wholes-count}
 use Rattle.inspect.specs.Seen.{seen, FieldsLaid, ListsLaid, isNext, behind, markOf}
-use Rattle.inspect.proofs.Steps.{Walk, walk-start, walk-step, drop-end}
+use Rattle.inspect.proofs.Steps.{Walk, walk-start, walk-step}
 
 -- ---- sizes
 
@@ -59,7 +59,7 @@ module _ (fmt : Format) (r : Raw) (a v : ℕ) (f : ℤ → Option ℕ → Bool) 
 
   pub scan-end : (i j : ℕ) → Scan fmt r a v f i j → r .count ≤ i → fine ≡ verdict (firstRows a v f 0 (wholes fmt r) (marked r))
   unfolding firstRows
-  scan-end i j s h = sym (s .rows ∙ ap (λ (zs : List ℤ). verdict (firstRows a v f i zs (drop i (marked r)))) (drop-end i (wholes fmt r) (omega (arith, wholes-count fmt r))))
+  scan-end i j s h = sym (s .rows ∙ ap (λ (zs : List ℤ). verdict (firstRows a v f i zs (drop i (marked r)))) (drop-of-length-le (wholes fmt r) {i = i} (omega (arith, wholes-count fmt r))))
 
   -- z is the whole number at position i, l says whether it is listed, and t is the condition
   module _ (i j : ℕ) (s : Scan fmt r a v f i j) (more : i < r .count) (z : ℤ) (ez : drop i (wholes fmt r) ≡ z ∷ drop (i + 1) (wholes fmt r))
@@ -95,7 +95,7 @@ module _ (fmt : Format) (r : Raw) where
   module _ (i : ℕ) (s : Seeking fmt r i) where
     pub seek-end : r .count ≤ i → pos 0 ≡ standInOf (wholes fmt r) (marked r)
     unfolding standIn zipWith
-    seek-end h = sym (s .same ∙ ap (λ (zs : List ℤ). standInOf zs (drop i (marked r))) (drop-end i (wholes fmt r) (omega (arith, wholes-count fmt r))))
+    seek-end h = sym (s .same ∙ ap (λ (zs : List ℤ). standInOf zs (drop i (marked r))) (drop-of-length-le (wholes fmt r) {i = i} (omega (arith, wholes-count fmt r))))
 
     module _ (more : i < r .count) (z : ℤ) (ez : drop i (wholes fmt r) ≡ z ∷ drop (i + 1) (wholes fmt r)) (l : Bool) (el : l ≡ isNext (r .positions) i i) where
       seek-here : standInOf (wholes fmt r) (marked r) ≡ standInOf (z ∷ drop (i + 1) (wholes fmt r)) (markOf l (getD (r .exceptions) i 0) ∷ drop (i + 1) (marked r))
@@ -126,7 +126,7 @@ module _ (fmt : Format) (r : Raw) where
 
   pub least-none : r .count ≤ 0 → least (wholes fmt r) ≡ leastOf (pos 0) (wholes fmt r)
   unfolding least leastOf
-  least-none h = let e = drop-end 0 (wholes fmt r) (omega (arith, wholes-count fmt r)) in ap least e ∙ ap (leastOf (pos 0)) (sym e)
+  least-none h = let e = drop-of-length-le (wholes fmt r) {i = 0} (omega (arith, wholes-count fmt r)) in ap least e ∙ ap (leastOf (pos 0)) (sym e)
 
   module _ (i : ℕ) (x z y : ℤ) (e : least (wholes fmt r) ≡ leastOf x (drop i (wholes fmt r))) where
     pub least-next : drop i (wholes fmt r) ≡ z ∷ drop (i + 1) (wholes fmt r) → y ≡ lesser x z → least (wholes fmt r) ≡ leastOf y (drop (i + 1) (wholes fmt r))
@@ -135,7 +135,7 @@ module _ (fmt : Format) (r : Raw) where
 
     pub least-end : r .count ≤ i → x ≡ least (wholes fmt r)
     unfolding leastOf
-    least-end h = sym (e ∙ ap (leastOf x) (drop-end i (wholes fmt r) (omega (arith, wholes-count fmt r))))
+    least-end h = sym (e ∙ ap (leastOf x) (drop-of-length-le (wholes fmt r) {i = i} (omega (arith, wholes-count fmt r))))
 
 module _ (fs : List ℕ) where
   pub greatest-next : (i a d b : ℕ) → greatest fs ≡ max a (greatest (drop i fs)) → drop i fs ≡ d ∷ drop (i + 1) fs → b ≡ max a d → greatest fs ≡ max b (greatest (drop (i + 1) fs))
@@ -144,7 +144,7 @@ module _ (fs : List ℕ) where
 
   pub greatest-end : (i a : ℕ) → greatest fs ≡ max a (greatest (drop i fs)) → length fs ≤ i → a ≡ greatest fs
   unfolding greatest
-  greatest-end i a e h = let q = ap greatest (drop-end i fs h) in omega (arith, e, q)
+  greatest-end i a e h = let q = ap greatest (drop-of-length-le fs {i = i} h) in omega (arith, e, q)
 
 -- it fits a word that is as wide as the fields
 pub largest-fits : (w n k : ℕ) (bs : List ℕ) → w ≤ k → greatest (unpack w n bs) < 2 ^ k

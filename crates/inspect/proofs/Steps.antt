@@ -4,10 +4,10 @@ use mathlib.Core.Bool.{Bool, true, false, _&&_}
 use mathlib.Core.List.{List, [], _∷_, map}
 use mathlib.Core.Option.{Option, none, some}
 use Prim.Native.Nat.{ℕ, zero, suc, _+_, _-_, _*_, _/_, _%_, _^_, _≤_, _<_}
-use native.Mathlib.Nat.{le-refl, mul-zero, mul-suc, add-comm, sub-zero, le-of-suc-le-suc}
+use native.Mathlib.Nat.{le-refl, sub-zero}
 use native.Mathlib.Numerals.{add-one}
 use native.Mathlib.Omega.{arith}
-use lib.ListN.{length, getD, take, drop}
+use lib.ListN.{length, getD, take, drop, drop-of-length-le}
 use lib.Seq.{drop-cons, drop-drop}
 use lib.Dec.{ltb, eqb}
 use lib.IntN.{ℤ, pos}
@@ -18,7 +18,7 @@ use Rattle.digits.specs.Lists.{Each}
 use Rattle.digits.specs.Digits.{number, numbers, unpack}
 use Rattle.digits.proofs.Lists.{each-map}
 use Rattle.digits.proofs.Laws.{length-to}
-use Rattle.digits.proofs.Rows.{length-numbers}
+use Rattle.digits.proofs.Rows.{length-numbers, getD-numbers}
 use Rattle.digits.proofs.Fields.{field-at}
 use Rattle.rules.specs.Kind.{word, wordBits}
 use Rattle.rules.specs.Vector.{Raw, fields, wholes, marks, marked}
@@ -29,25 +29,10 @@ use Rattle.inspect.specs.Seen.{isNext, behind, markOf}
 
 -- ---- lists
 
-pub drop-end : {A : Type 0} (n : ℕ) (l : List A) → length l ≤ n → drop n l ≡ []
-drop-end zero [] h = refl
-drop-end zero (x ∷ l) h = absurd (omega arith)
-drop-end (suc n) [] h = refl
-drop-end (suc n) (x ∷ l) h = drop-end n l (le-of-suc-le-suc h)
-
 drop-map : {A B : Type 0} (g : A → B) (n : ℕ) (l : List A) → drop n (map g l) ≡ map g (drop n l)
 drop-map g zero l = refl
 drop-map g (suc n) [] = refl
 drop-map g (suc n) (x ∷ l) = drop-map g n l
-
--- the number at place j
-pub getD-numbers : (k c : ℕ) (bs : List ℕ) (j : ℕ) → j < c → getD (numbers k c bs) j 0 ≡ number (take k (drop (k * j) bs))
-unfolding numbers
-getD-numbers k zero bs j h = absurd (omega arith)
-getD-numbers k (suc c) bs zero h = ap (λ (x : ℕ). number (take k (drop x bs))) (sym (mul-zero k))
-getD-numbers k (suc c) bs (suc j) h =
-    getD-numbers k c (drop k bs) j (le-of-suc-le-suc h)
-    ∙ ap (λ (x : List ℕ). number (take k x)) (drop-drop (k * j) k bs ∙ ap (λ (x : ℕ). drop x bs) (add-comm k (k * j) ∙ sym (mul-suc k j)))
 
 -- whether i is the next position of a list of numbers
 module _ (listed i j : ℕ) (lists : List ℕ) where
@@ -166,7 +151,7 @@ module _ (r : Raw) (i j : ℕ) (w : Walk r i j) (more : i < r .count) where
         later a b h ne = omega (arith, h, ne)
 
   listed-over : length ps ≤ j → Step false
-  listed-over h = unlisted (subst (Rising n (suc i)) (sym (drop-end j ps h)) tt)
+  listed-over h = unlisted (subst (Rising n (suc i)) (sym (drop-of-length-le ps {i = j} h)) tt)
 
   pub walk-step : Step (isNext ps i j)
   walk-step = go (ltb j (length ps)) refl

@@ -233,6 +233,11 @@ module _ (fmt : Format) (s n : ℕ) (rs : List Raw) (low : minS ≤ s) (high : s
       rw (head-passes, offsets-pass, s-back fmt s n rs, count-back fmt s n rs small, v, offsets-back fmt s n rs small v k, body-back fmt s n rs small v)
       (vectors-pass fmt (2 ^ s) (record { vector = 0; offset = 4 * length rs; left = n }) rs c f w)
 
+-- a page that passes has a header that passes
+pub page-header : (fmt : Format) (bs : List ℕ) → verdict (pageRows fmt bs) ≡ fine → verdict (headRows bs) ≡ fine
+unfolding pageRows
+page-header fmt bs ok = first-fine (verdict (headRows bs)) _ ok .0
+
 -- the two halves of what a page that passes shows
 pub page-fine : (fmt : Format) (bs : List ℕ) → verdict (pageRows fmt bs) ≡ fine → Head bs × (verdict (vectorsRows fmt (2 ^ sOf bs) (start bs) (offsetsOf bs) (bodyOf bs)) ≡ fine)
 unfolding pageRows

@@ -1,12 +1,14 @@
 -- Rows in their order: what passes them, and what it shows that they pass. Assumes nothing.
-use mathlib.Core.Path.{_≡_, refl, ap, _∙_}
+use mathlib.Core.Path.{_≡_, refl, sym, ap, _∙_, subst}
 use mathlib.Core.Bool.{Bool, true, false, not, _||_}
 use mathlib.Core.List.{List}
 use Prim.Native.Nat.{ℕ}
 use native.Mathlib.Omega.{arith}
-use lib.Dec.{eqb}
+use lib.Dec.{T, eqb}
+use lib.IntN.{ℤ, pos, negsuc}
 use borrow.Author.Tests.{eqb-true, eq-eqb, not-false}
 use Rattle.rules.specs.Verdict.{Point, Rows, row, _then_, Verdict, fine, refuse, first, verdict, settle, done, _isnt_}
+use Rattle.rules.specs.Examine.{eqZ}
 
 -- ---- one row, and one after the other
 
@@ -51,6 +53,23 @@ is a b e = ap not (eq-eqb a b e)
 
 pub isnt-false : (a b : ℕ) → (a isnt b) ≡ false → a ≡ b
 isnt-false a b e = eqb-true a b (not-false (eqb a b) e)
+
+-- whole numbers compared
+pub eqZ-refl : (z : ℤ) → eqZ z z ≡ true
+eqZ-refl (pos n) = eq-eqb n n refl
+eqZ-refl (negsuc n) = eq-eqb n n refl
+
+pub eqZ-true : (a b : ℤ) → eqZ a b ≡ true → a ≡ b
+eqZ-true (pos a) (pos b) e = ap pos (eqb-true a b e)
+eqZ-true (pos a) (negsuc b) e = absurd (subst T (sym e) tt)
+eqZ-true (negsuc a) (pos b) e = absurd (subst T (sym e) tt)
+eqZ-true (negsuc a) (negsuc b) e = ap negsuc (eqb-true a b e)
+
+pub same-number : (z : ℤ) → not (eqZ z z) ≡ false
+same-number z = ap not (eqZ-refl z)
+
+pub not-other : (a b : ℤ) → not (eqZ a b) ≡ false → a ≡ b
+not-other a b e = eqZ-true a b (not-false (eqZ a b) e)
 
 pub neither : (a b : Bool) → a ≡ false → b ≡ false → (a || b) ≡ false
 neither a b p q = cc

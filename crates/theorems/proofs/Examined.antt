@@ -9,12 +9,10 @@ use mathlib.Core.Logic.{inl, inr}
 use mathlib.Core.List.{List, [], _∷_, map, zipWith}
 use mathlib.Core.Option.{Option, none, some}
 use lib.ListN.{length, length-map}
-use lib.Dec.{T, eqb-refl, eqb→eq}
 use lib.Pow.{pow-pos, pow-mono}
-use lib.IntN.{ℤ, pos, negsuc, natAbs, _-ℤ_}
+use lib.IntN.{ℤ, natAbs, _-ℤ_}
 use lib.Signed.{mag}
 use lib.Ieee.{Format}
-use lib.Ieee.Bits.{is-true}
 use borrow.Author.Tests.{lt-ltb, ltb-true, not-false}
 use mir.Syntax.{Width}
 use mir.Val.{bits, hbits, ofZ, toZ}
@@ -28,8 +26,8 @@ use Rattle.rules.specs.Kind.{word, wordBits, Bytes}
 use Rattle.rules.specs.Decimal.{Pair, exception, tried, back}
 use Rattle.rules.specs.Vector.{Raw, tries, standIn, filled, orElse, least, fieldsOf, widthOf, places, picks, rawOf, encoded, fields, wholes, marks, marked, decoded}
 use Rattle.rules.specs.Verdict.{fine, verdict, row, in-vector, in-vector-at, _below_}
-use Rattle.rules.specs.Examine.{eqZ, unusedSet, isOther, strays, needless, unfilled, unlisted, standInOf, frameOff, widthOff, firstRows, rulesRows}
-use Rattle.rules.proofs.Rows.{row-passes, row-fine, row-first, first-passes, first-fine, is, isnt-false, or-false}
+use Rattle.rules.specs.Examine.{unusedSet, isOther, strays, needless, unfilled, unlisted, standInOf, frameOff, widthOff, firstRows, rulesRows}
+use Rattle.rules.proofs.Rows.{row-passes, row-fine, row-first, first-passes, first-fine, is, isnt-false, same-number, not-other, or-false}
 use Rattle.rules.proofs.Order.{AtMost, least-below, least-one, width-holds}
 use Rattle.rules.proofs.Fields.{field-forth}
 use Rattle.rules.proofs.Tries.{Held, tried-some, none-excepted, tried-none}
@@ -39,24 +37,6 @@ use Rattle.rules.proofs.Encoded.{length-filled}
 use Rattle.rules.proofs.Decoded.{wholes-count, marked-count}
 use Rattle.rules.proofs.Pages.{Fit}
 use Rattle.rules.proofs.Reading.{Rising, Sound}
-
--- ---- whole numbers compared
-
-eqZ-refl : (z : ℤ) → T (eqZ z z)
-eqZ-refl (pos n) = eqb-refl n
-eqZ-refl (negsuc n) = eqb-refl n
-
-same-number : (z : ℤ) → not (eqZ z z) ≡ false
-same-number z = ap not (is-true (eqZ z z) (eqZ-refl z))
-
-eqZ→eq : (a b : ℤ) → T (eqZ a b) → a ≡ b
-eqZ→eq (pos a) (pos b) t = ap pos (eqb→eq a b t)
-eqZ→eq (pos a) (negsuc b) t = absurd t
-eqZ→eq (negsuc a) (pos b) t = absurd t
-eqZ→eq (negsuc a) (negsuc b) t = ap negsuc (eqb→eq a b t)
-
-not-other : (a b : ℤ) → not (eqZ a b) ≡ false → a ≡ b
-not-other a b e = eqZ→eq a b (subst T (sym (not-false (eqZ a b) e)) tt)
 
 -- ---- an encoded vector passes
 

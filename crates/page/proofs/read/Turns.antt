@@ -2,27 +2,24 @@
 use mathlib.Core.Path.{_≡_, refl, sym, ap, ap₂, _∙_, subst}
 use mathlib.Core.List.{List, [], _++_, map}
 use Prim.Native.Nat.{ℕ, _+_, _-_, _*_, _^_, _≤_, _<_, min}
-use native.Mathlib.Nat.{add-assoc}
 use native.Mathlib.Omega.{arith}
 use lib.ListN.{length, take, drop, length-drop, length-take}
 use lib.Seq.{drop-drop}
 use lib.Ieee.{Format}
 use borrow.Rule.Slice.PartMut.{putMid}
-use Rattle.digits.specs.Digits.{number, numbers}
 use Rattle.digits.specs.Lists.{join, over, putAt}
 use Rattle.digits.proofs.Lists.{lent, lent-is}
 use Rattle.digits.proofs.Stream.{Stream, stream-start, stream-as, stream-room, stream-wrote, stream-end}
 use Rattle.rules.specs.Kind.{metaBytes, maxS}
-use Rattle.rules.specs.Vector.{decoded}
-use Rattle.rules.specs.Page.{sOf, countOf, vectorsOf, offsetsOf, bodyOf, vectorSize, metaAt, rawFrom, rawsFrom, rawsOf}
+use Rattle.rules.specs.Vector.{Raw, decoded}
+use Rattle.rules.specs.Page.{sOf, countOf, vectorsOf, vectorSize, metaAt, rawFrom}
 use Rattle.rules.specs.Verdict.{fine, verdict}
-use Rattle.rules.specs.Read.{headRows, Cursor, vectorRows, pageRows, readRows, valuesOf}
-use Rattle.rules.proofs.Rows.{first-fine}
-use Rattle.rules.proofs.Reading.{Passed, Head, vector-fine, page-fine, read-fine}
+use Rattle.rules.specs.Read.{headRows, readRows, valuesOf}
+use Rattle.rules.proofs.Reading.{Passed, Head, page-header, page-fine, read-fine}
 use Rattle.rules.proofs.Decoded.{decoded-count, values-count}
 use Rattle.checks.specs.Forms.{FoundMeta}
 use Rattle.checks.specs.declared.vector.Meta.{Meta}
-use Rattle.checks.proofs.Turns.{numbers-at, numbers-end, numbers-start, vectors-left, vectors-start, vector-turn}
+use Rattle.checks.proofs.Turns.{vectors-left, vectors-passed-start, raws-left, raws-turn, raws-start, raws-end, vector-passed, vectors-passed, ends-inside}
 use Rattle.decode.specs.Readable.{Readable, valuesAt}
 
 -- where the reader's rows pass, so do rows 1 to 6, and what they and 7 show holds
@@ -31,12 +28,11 @@ module _ (fmt : Format) (room : ℕ) (bs : List ℕ) (ok : verdict (readRows fmt
   reader-head = page-fine fmt bs (read-fine fmt room bs ok .0) .0
 
   pub reader-header : verdict (headRows bs) ≡ fine
-  unfolding pageRows
-  reader-header = first-fine (verdict (headRows bs)) _ (read-fine fmt room bs ok .0) .0
+  reader-header = page-header fmt bs (read-fine fmt room bs ok .0)
 
 -- the values of the vectors from number v on, the next of which is at offset `at` and has its share of `left` values
 abbrev pub values-left : Format → List ℕ → ℕ → ℕ → ℕ → ℕ → ℕ → List ℕ
-values-left fmt page size many v at left = join (map (decoded fmt) (rawsFrom fmt size left (numbers 4 (many - v) (drop (8 + 4 * v) page)) (drop (8 + at) page)))
+values-left fmt page size many v at left = join (map (decoded fmt) (raws-left fmt page size many v at left))
 
 -- the vectors before number v are read, to the places before `start`; the rows of the others pass
 pub record Reading (fmt : Format) (page : List ℕ) (size many : ℕ) (out₀ : List ℕ) (v at left start : ℕ) (out : List ℕ) : Type 0 where
@@ -48,10 +44,8 @@ pub record Reading (fmt : Format) (page : List ℕ) (size many : ℕ) (out₀ : 
 
 module _ (fmt : Format) (page : List ℕ) (size many left : ℕ) (es : size ≡ 2 ^ sOf page) (em : many ≡ vectorsOf page) (el : left ≡ countOf page) where
   all-left : valuesOf fmt page ≡ values-left fmt page size many 0 (4 * many) left
-  unfolding valuesOf rawsOf offsetsOf bodyOf
-  all-left =
-      rw (es, em, el)
-      (ap (λ (x : List ℕ). join (map (decoded fmt) (rawsFrom fmt (2 ^ sOf page) (countOf page) x (drop (8 + 4 * vectorsOf page) page)))) (numbers-start 4 (vectorsOf page) 8 page))
+  unfolding valuesOf
+  all-left = ap (λ (rs : List Raw). join (map (decoded fmt) rs)) (raws-start fmt page size many left es em el)
 
   pub reading-start : (out : List ℕ) → verdict (readRows fmt (length out) page) ≡ fine → Reading fmt page size many out 0 (4 * many) left 0 out
   reading-start out ok =
@@ -61,7 +55,7 @@ module _ (fmt : Format) (page : List ℕ) (size many left : ℕ) (es : size ≡ 
         room = omega (arith, values-count fmt page, r .1);
         within = omega arith;
         inside = omega (arith, em, p .0 .offsets);
-        passes = sym (vectors-start fmt page size many left es em el) ∙ p .1;
+        passes = vectors-passed-start fmt page size many left es em el (r .0);
         stream = stream-as (values-left fmt page size many 0 (4 * many) left) all-left (stream-start (valuesOf fmt page) out);
       }
 
@@ -74,29 +68,12 @@ module _ {fmt : Format} {page : List ℕ} {size many : ℕ} {out₀ : List ℕ} 
     ep : part ≡ drop (8 + at) page
     ep = lent-is (8 + at) page
 
-    abbrev cursor : Cursor
-    cursor = record { vector = v; offset = at; left = left }
-
-    both : (verdict (vectorRows fmt size cursor (number (take 4 (drop (8 + 4 * v) page))) (metaAt fmt part) part) ≡ fine)
-        × (verdict (vectors-left fmt page size many (v + 1) (at + vectorSize fmt n (metaAt fmt part)) (left - n)) ≡ fine)
-    both = first-fine _ _ (sym (vector-turn fmt page part size many v at left _ n _ fine more ep refl en refl (sym (u .passes))))
-
     pub next-passed : Passed fmt n (metaAt fmt part) part
-    next-passed = subst (λ (x : ℕ). Passed fmt x (metaAt fmt part) part) (sym en) (vector-fine fmt size cursor _ (metaAt fmt part) part (both .0) .1)
+    next-passed = vector-passed fmt page part size many v at left n _ more ep en refl (u .passes)
 
     values-next : (k : ℕ) → k ≡ vectorSize fmt n (metaAt fmt part)
         → values-left fmt page size many v at left ≡ valuesAt fmt n part ++ values-left fmt page size many (v + 1) (at + k) (left - n)
-    unfolding rawsFrom
-    values-next k ek =
-        let B : List ℕ = drop (8 + at) page in
-        let c : ℕ = min size left in
-        let S : ℕ = vectorSize fmt c (metaAt fmt B) in
-        let os : List ℕ = numbers 4 (many - (v + 1)) (drop (8 + 4 * (v + 1)) page) in
-        let l : left - size ≡ left - c = omega arith in
-        let d : drop S B ≡ drop (8 + (at + S)) page = drop-drop S (8 + at) page ∙ ap (λ (x : ℕ). drop x page) (add-assoc 8 at S) in
-        rw (ek, ep, en)
-        (ap (λ (x : List ℕ). join (map (decoded fmt) (rawsFrom fmt size left x B))) (numbers-at 4 many v 8 page more)
-        ∙ ap₂ (λ (x : ℕ) (y : List ℕ). valuesAt fmt c B ++ join (map (decoded fmt) (rawsFrom fmt size x os y))) l d)
+    values-next k ek = ap (λ (rs : List Raw). join (map (decoded fmt) rs)) (raws-turn fmt page part size many v at left n k more ep en ek)
 
     values-many : length (valuesAt fmt n part) ≡ n
     unfolding rawFrom
@@ -121,7 +98,7 @@ module _ {fmt : Format} {page : List ℕ} {size many : ℕ} {out₀ : List ℕ} 
 
     module _ (k : ℕ) (ek : k ≡ vectorSize fmt n (metaAt fmt part)) where
       pub next-inside : 8 + (at + k) ≤ length page
-      next-inside = omega (arith, ek, next-passed .whole, u .inside, ap length ep, length-drop (8 + at) page)
+      next-inside = ends-inside page part at k ep (u .inside) (omega (arith, ek, next-passed .whole))
 
       pub reading-next : (last : List ℕ) → last ≡ valuesAt fmt (length lent-out) part
           → Reading fmt page size many out₀ (v + 1) (at + k) (left - n) (start + n) (putMid start (start + n - start) out last)
@@ -136,14 +113,12 @@ module _ {fmt : Format} {page : List ℕ} {size many : ℕ} {out₀ : List ℕ} 
             room = u .room;
             within = omega arith;
             inside = next-inside;
-            passes = ap (λ (x : ℕ). verdict (vectors-left fmt page size many (v + 1) (at + x) (left - n))) ek ∙ both .1;
+            passes = vectors-passed fmt page part size many v at left n k more ep en ek (u .passes);
             stream = stream-wrote (valuesOf fmt page) w rest out out₀ (putMid start (start + n - start) out last) start (start + n) (u .room) (stream-as (w ++ rest) (values-next k ek) (u .stream)) (ap (λ (x : ℕ). start + x) (sym values-many)) put;
           }
 
   pub reading-end : many ≤ v → out ≡ over (valuesOf fmt page) out₀
-  unfolding rawsFrom
   reading-end h =
-      let none : values-left fmt page size many v at left ≡ [] =
-      ap (λ (x : List ℕ). join (map (decoded fmt) (rawsFrom fmt size left x (drop (8 + at) page)))) (numbers-end 4 many v (drop (8 + 4 * v) page) h) in
+      let none : values-left fmt page size many v at left ≡ [] = ap (λ (rs : List Raw). join (map (decoded fmt) rs)) (raws-end fmt page size many v at left h) in
       let e = stream-end (valuesOf fmt page) (values-left fmt page size many v at left) out out₀ start none (u .stream) in
       e .1 ∙ ap (λ (x : ℕ). valuesOf fmt page ++ drop x out₀) (e .0)

@@ -3,7 +3,7 @@ use mathlib.Core.Path.{_≡_, refl, sym, ap, _∙_}
 use mathlib.Core.List.{List}
 use Prim.Native.Nat.{ℕ, _+_, _-_, _^_, _≤_}
 use native.Mathlib.Omega.{arith}
-use lib.ListN.{length, drop, length-drop}
+use lib.ListN.{length, drop}
 use lib.Ieee.{Format}
 use denote.Ref.{now}
 use Rattle.digits.proofs.Lists.{lent, lent-is}
@@ -11,11 +11,11 @@ use Rattle.rules.specs.Kind.{metaBytes}
 use Rattle.rules.specs.Page.{vectorSize, metaAt, rawFrom, rawsOf}
 use Rattle.rules.specs.Verdict.{fine, first, verdict}
 use Rattle.rules.specs.Examine.{rulesRows, allRulesRows}
-use Rattle.rules.proofs.Reading.{Passed, page-fine}
+use Rattle.rules.proofs.Reading.{Passed, page-header, page-fine}
 use Rattle.checks.specs.Forms.{formatOf}
 use Rattle.checks.proofs.Refusals.{stops, continues}
-use Rattle.checks.proofs.Turns.{vectors-left}
-use Rattle.page.proofs.examine.Turns.{raws-left, layout-turn, rules-turn, rules-end, rules-start, layout-start, head-passes}
+use Rattle.checks.proofs.Turns.{vectors-left, raws-left, vector-passed, vectors-passed, vectors-passed-start, ends-inside}
+use Rattle.page.proofs.examine.Turns.{rules-turn, rules-end, rules-start}
 use borrow.Author.Needs.{needs}
 use Rattle.page.proofs.examine.examine_vectors.Statement.{statement}
 use Rattle.page.proofs.examine.examine_vectors.Tie as tie
@@ -56,7 +56,7 @@ layout : (c : Counted) (k : ℕ) → k ≡ vectorSize (fmt-at c) (c .least .resu
     × (verdict (vectors-left (fmt-at c) (page-at c) (c .before .before .before .before .before .before .size-of .result) (c .before .before .before .before .before .vectors-in .result) (c .before .before .before .loop .v + 1) (c .before .before .before .loop .at + k) (c .before .before .before .loop .left - c .least .result)) ≡ fine)
 layout c k ek =
     let l = c .before .before .before .loop in
-    layout-turn (fmt-at c) (page-at c) (part-at c) (c .before .before .before .before .before .before .size-of .result) (c .before .before .before .before .before .vectors-in .result) (l .v) (l .at) (l .left) (c .least .result) k (c .before .before .loop-test .taken) (lent-is (8 + l .at) (page-at c)) (c .least .ensures) ek (l .inv .1)
+    (vector-passed (fmt-at c) (page-at c) (part-at c) (c .before .before .before .before .before .before .size-of .result) (c .before .before .before .before .before .vectors-in .result) (l .v) (l .at) (l .left) (c .least .result) k (c .before .before .loop-test .taken) (lent-is (8 + l .at) (page-at c)) (c .least .ensures) ek (l .inv .1), vectors-passed (fmt-at c) (page-at c) (part-at c) (c .before .before .before .before .before .before .size-of .result) (c .before .before .before .before .before .vectors-in .result) (l .v) (l .at) (l .left) (c .least .result) k (c .before .before .loop-test .taken) (lent-is (8 + l .at) (page-at c)) (c .least .ensures) ek (l .inv .1))
 
 -- the rules' rows of all vectors are those of this one, then those of the vectors behind it
 turn : (c : Counted) (k : ℕ) → k ≡ vectorSize (fmt-at c) (c .least .result) (metaAt (fmt-at c) (part-at c))
@@ -74,7 +74,7 @@ inside : (c : tie.After-vector-size Inv-loop μ-loop) → 8 + (c .before .before
 inside c =
     let at = c .before .before .before .before .before .before .before .before .loop .at in
     let whole = layout (c .before .before .before .before .before) (c .vector-size .result) (size-is c) .0 .whole in
-    omega (arith, whole, size-is c, ap length (lent-is (8 + at) (page-at (c .before .before .before .before .before))), length-drop (8 + at) (page-at (c .before .before .before .before .before)))
+    ends-inside (page-at (c .before .before .before .before .before)) (part-at (c .before .before .before .before .before)) at (c .vector-size .result) (lent-is (8 + at) (page-at (c .before .before .before .before .before))) (c .before .before .before .before .before .before .before .before .loop .inv .0) (omega (arith, whole, size-is c))
 
 -- src/examine.rt:28:9
 s-of-requires : tie.Need-s-of-requires Inv-loop μ-loop
@@ -86,7 +86,7 @@ size-of-requires c κs = omega (arith, page-fine (formatOf (c .before .before .a
 
 -- src/examine.rt:30:9
 vectors-in-requires : tie.Need-vectors-in-requires Inv-loop μ-loop
-vectors-in-requires c κs = head-passes (formatOf (c .before .before .before .args .kind)) (now (c .before .before .before .args .page)) (c .before .before .before .pre)
+vectors-in-requires c κs = page-header (formatOf (c .before .before .before .args .kind)) (now (c .before .before .before .args .page)) (c .before .before .before .pre)
 
 -- src/examine.rt:32:25
 mul-at : tie.Need-mul-at Inv-loop μ-loop
@@ -105,7 +105,7 @@ loop-holds c =
     let room = page-fine fmt page (c .before .before .before .before .before .pre) .0 .offsets in
     let size = c .before .before .size-of .ensures .0 ∙ ap (λ (x : ℕ). 2 ^ x) (c .before .before .before .s-of .ensures) in
     let many = c .before .vectors-in .ensures .0 in
-    (omega (arith, room, many), layout-start fmt page (c .before .before .size-of .result) (c .before .vectors-in .result) (c .count-of .result) size many (c .count-of .ensures .0) (c .before .before .before .before .before .pre), rules-start fmt page (c .before .before .size-of .result) (c .before .vectors-in .result) (c .count-of .result) size many (c .count-of .ensures .0))
+    (omega (arith, room, many), vectors-passed-start fmt page (c .before .before .size-of .result) (c .before .vectors-in .result) (c .count-of .result) size many (c .count-of .ensures .0) (c .before .before .before .before .before .pre), rules-start fmt page (c .before .before .size-of .result) (c .before .vectors-in .result) (c .count-of .result) size many (c .count-of .ensures .0))
 
 -- src/examine.rt:35:20
 add-from : tie.Need-add-from Inv-loop μ-loop
