@@ -1,7 +1,6 @@
 // Answers framed requests on standard input, so that another program can drive the library's calls (docs/FRAMES.md).
 mod frames;
 mod serve;
-mod words;
 
 use crate::frames::Got;
 use crate::frames::head;
