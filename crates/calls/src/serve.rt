@@ -33,107 +33,48 @@ pub fn bad() -> bool {
 
 pub fn serve(r: Request) -> bool {
     let call = r.call;
-    let kind = r.kind;
-    if kind == 32 {
-        match call {
-            1 => serve_measure32(r),
-            2 => serve_write32(r),
-            3 => serve_read32(r),
-            _ => serve_examine(r),
-        }
-    } else {
-        match call {
-            1 => serve_measure64(r),
-            2 => serve_write64(r),
-            3 => serve_read64(r),
-            _ => serve_examine(r),
-        }
+    match call {
+        1 => serve_column(r, 0),
+        2 => serve_column(r, MOST_BYTES),
+        3 => serve_read(r),
+        _ => serve_examine(r),
     }
 }
 
-fn serve_measure32(r: Request) -> bool {
-    let n = r.a;
-    let b = r.b;
-    let mut raw: [u8; 65600] = [0; 65600];
-    let mut values: [u32; 16400] = [0; 16400];
-    let mut pairs: [u8; 4200] = [0; 4200];
-    if MOST_VALUES < n {
-        return bad();
-    }
-    if MOST_PAIRS < b {
-        return bad();
-    }
-    if r.c != 0 {
-        return bad();
-    }
-    measure_with32(r.s, &mut raw[0..4 * n], &mut values[0..n], &mut pairs[0..b])
-}
+// ---- measure and write: a column, its pairs, and an output of `most` bytes at the most
 
-fn measure_with32(s: u8, raw: &mut [u8], values: &mut [u32], pairs: &mut [u8]) -> bool
-    requires { ⌜ 4 * length (now values) ≤ length (now raw) ⌝ }
+fn serve_column(r: Request, most: usize) -> bool
+    requires { ⌜ most ≤ 400000 ⌝ }
 {
-    if !fill(raw) {
-        return bad();
-    }
-    words32(raw, values);
-    if !fill(pairs) {
-        return bad();
-    }
-    answer(measure32(values, s, pairs));
-    true
-}
-
-fn serve_measure64(r: Request) -> bool {
-    let n = r.a;
-    let b = r.b;
-    let mut raw: [u8; 131200] = [0; 131200];
-    let mut values: [u64; 16400] = [0; 16400];
-    let mut pairs: [u8; 4200] = [0; 4200];
-    if MOST_VALUES < n {
-        return bad();
-    }
-    if MOST_PAIRS < b {
-        return bad();
-    }
-    if r.c != 0 {
-        return bad();
-    }
-    measure_with64(r.s, &mut raw[0..8 * n], &mut values[0..n], &mut pairs[0..b])
-}
-
-fn measure_with64(s: u8, raw: &mut [u8], values: &mut [u64], pairs: &mut [u8]) -> bool
-    requires { ⌜ 8 * length (now values) ≤ length (now raw) ⌝ }
-{
-    if !fill(raw) {
-        return bad();
-    }
-    words64(raw, values);
-    if !fill(pairs) {
-        return bad();
-    }
-    answer(measure64(values, s, pairs));
-    true
-}
-
-fn serve_write32(r: Request) -> bool {
     let n = r.a;
     let b = r.b;
     let c = r.c;
+    if MOST_VALUES < n {
+        return bad();
+    }
+    if MOST_PAIRS < b {
+        return bad();
+    }
+    if most < c {
+        return bad();
+    }
+    if r.kind == 32 {
+        column32(r.call, r.s, n, b, c)
+    } else {
+        column64(r.call, r.s, n, b, c)
+    }
+}
+
+fn column32(call: u8, s: u8, n: usize, b: usize, c: usize) -> bool
+    requires { ⌜ (n ≤ 16400) × (b ≤ 4200) × (c ≤ 400000) ⌝ }
+{
     let mut raw: [u8; 65600] = [0; 65600];
     let mut values: [u32; 16400] = [0; 16400];
     let mut pairs: [u8; 4200] = [0; 4200];
     let mut out: [u8; 400000] = [0; 400000];
-    if MOST_VALUES < n {
-        return bad();
-    }
-    if MOST_PAIRS < b {
-        return bad();
-    }
-    if MOST_BYTES < c {
-        return bad();
-    }
     write_with32(
-        r.s,
+        call,
+        s,
         &mut raw[0..4 * n],
         &mut values[0..n],
         &mut pairs[0..b],
@@ -141,43 +82,16 @@ fn serve_write32(r: Request) -> bool {
     )
 }
 
-fn write_with32(s: u8, raw: &mut [u8], values: &mut [u32], pairs: &mut [u8], out: &mut [u8]) -> bool
-    requires { ⌜ 4 * length (now values) ≤ length (now raw) ⌝ }
+fn column64(call: u8, s: u8, n: usize, b: usize, c: usize) -> bool
+    requires { ⌜ (n ≤ 16400) × (b ≤ 4200) × (c ≤ 400000) ⌝ }
 {
-    if !fill(raw) {
-        return bad();
-    }
-    words32(raw, values);
-    if !fill(pairs) {
-        return bad();
-    }
-    if !fill(out) {
-        return bad();
-    }
-    answer(write32(values, s, pairs, out));
-    give(out);
-    true
-}
-
-fn serve_write64(r: Request) -> bool {
-    let n = r.a;
-    let b = r.b;
-    let c = r.c;
     let mut raw: [u8; 131200] = [0; 131200];
     let mut values: [u64; 16400] = [0; 16400];
     let mut pairs: [u8; 4200] = [0; 4200];
     let mut out: [u8; 400000] = [0; 400000];
-    if MOST_VALUES < n {
-        return bad();
-    }
-    if MOST_PAIRS < b {
-        return bad();
-    }
-    if MOST_BYTES < c {
-        return bad();
-    }
     write_with64(
-        r.s,
+        call,
+        s,
         &mut raw[0..8 * n],
         &mut values[0..n],
         &mut pairs[0..b],
@@ -185,30 +99,67 @@ fn serve_write64(r: Request) -> bool {
     )
 }
 
-fn write_with64(s: u8, raw: &mut [u8], values: &mut [u64], pairs: &mut [u8], out: &mut [u8]) -> bool
-    requires { ⌜ 8 * length (now values) ≤ length (now raw) ⌝ }
+fn fill_three(first: &mut [u8], second: &mut [u8], third: &mut [u8]) -> bool {
+    if !fill(first) {
+        return false;
+    }
+    if !fill(second) {
+        return false;
+    }
+    fill(third)
+}
+
+fn write_with32(
+    call: u8,
+    s: u8,
+    raw: &mut [u8],
+    values: &mut [u32],
+    pairs: &mut [u8],
+    out: &mut [u8],
+) -> bool
+    requires { ⌜ 4 * length (now values) ≤ length (now raw) ⌝ }
 {
-    if !fill(raw) {
+    if !fill_three(raw, pairs, out) {
         return bad();
     }
-    words64(raw, values);
-    if !fill(pairs) {
-        return bad();
+    words32(raw, values);
+    if call == 1 {
+        answer(measure32(values, s, pairs));
+    } else {
+        answer(write32(values, s, pairs, out));
+        give(out);
     }
-    if !fill(out) {
-        return bad();
-    }
-    answer(write64(values, s, pairs, out));
-    give(out);
     true
 }
 
-fn serve_read32(r: Request) -> bool {
+fn write_with64(
+    call: u8,
+    s: u8,
+    raw: &mut [u8],
+    values: &mut [u64],
+    pairs: &mut [u8],
+    out: &mut [u8],
+) -> bool
+    requires { ⌜ 8 * length (now values) ≤ length (now raw) ⌝ }
+{
+    if !fill_three(raw, pairs, out) {
+        return bad();
+    }
+    words64(raw, values);
+    if call == 1 {
+        answer(measure64(values, s, pairs));
+    } else {
+        answer(write64(values, s, pairs, out));
+        give(out);
+    }
+    true
+}
+
+// ---- read: a page, and an output in values
+
+fn serve_read(r: Request) -> bool {
     let n = r.a;
     let c = r.c;
-    let mut page: [u8; 400000] = [0; 400000];
-    let mut raw: [u8; 65600] = [0; 65600];
-    let mut out: [u32; 16400] = [0; 16400];
     if MOST_BYTES < n {
         return bad();
     }
@@ -218,16 +169,42 @@ fn serve_read32(r: Request) -> bool {
     if MOST_VALUES < c {
         return bad();
     }
+    if r.kind == 32 {
+        page32(n, c)
+    } else {
+        page64(n, c)
+    }
+}
+
+fn page32(n: usize, c: usize) -> bool
+    requires { ⌜ (n ≤ 400000) × (c ≤ 16400) ⌝ }
+{
+    let mut page: [u8; 400000] = [0; 400000];
+    let mut raw: [u8; 65600] = [0; 65600];
+    let mut out: [u32; 16400] = [0; 16400];
     read_with32(&mut page[0..n], &mut raw[0..4 * c], &mut out[0..c])
+}
+
+fn page64(n: usize, c: usize) -> bool
+    requires { ⌜ (n ≤ 400000) × (c ≤ 16400) ⌝ }
+{
+    let mut page: [u8; 400000] = [0; 400000];
+    let mut raw: [u8; 131200] = [0; 131200];
+    let mut out: [u64; 16400] = [0; 16400];
+    read_with64(&mut page[0..n], &mut raw[0..8 * c], &mut out[0..c])
+}
+
+fn fill_two(first: &mut [u8], second: &mut [u8]) -> bool {
+    if !fill(first) {
+        return false;
+    }
+    fill(second)
 }
 
 fn read_with32(page: &mut [u8], raw: &mut [u8], out: &mut [u32]) -> bool
     requires { ⌜ 4 * length (now out) ≤ length (now raw) ⌝ }
 {
-    if !fill(page) {
-        return bad();
-    }
-    if !fill(raw) {
+    if !fill_two(page, raw) {
         return bad();
     }
     words32(raw, out);
@@ -237,31 +214,10 @@ fn read_with32(page: &mut [u8], raw: &mut [u8], out: &mut [u32]) -> bool
     true
 }
 
-fn serve_read64(r: Request) -> bool {
-    let n = r.a;
-    let c = r.c;
-    let mut page: [u8; 400000] = [0; 400000];
-    let mut raw: [u8; 131200] = [0; 131200];
-    let mut out: [u64; 16400] = [0; 16400];
-    if MOST_BYTES < n {
-        return bad();
-    }
-    if r.b != 0 {
-        return bad();
-    }
-    if MOST_VALUES < c {
-        return bad();
-    }
-    read_with64(&mut page[0..n], &mut raw[0..8 * c], &mut out[0..c])
-}
-
 fn read_with64(page: &mut [u8], raw: &mut [u8], out: &mut [u64]) -> bool
     requires { ⌜ 8 * length (now out) ≤ length (now raw) ⌝ }
 {
-    if !fill(page) {
-        return bad();
-    }
-    if !fill(raw) {
+    if !fill_two(page, raw) {
         return bad();
     }
     words64(raw, out);
@@ -271,9 +227,10 @@ fn read_with64(page: &mut [u8], raw: &mut [u8], out: &mut [u64]) -> bool
     true
 }
 
+// ---- examine: a page
+
 fn serve_examine(r: Request) -> bool {
     let n = r.a;
-    let mut page: [u8; 400000] = [0; 400000];
     if MOST_BYTES < n {
         return bad();
     }
@@ -283,7 +240,14 @@ fn serve_examine(r: Request) -> bool {
     if r.c != 0 {
         return bad();
     }
-    examine_with(r.kind, &mut page[0..n])
+    examine_page(r.kind, n)
+}
+
+fn examine_page(kind: u8, n: usize) -> bool
+    requires { ⌜ n ≤ 400000 ⌝ }
+{
+    let mut page: [u8; 400000] = [0; 400000];
+    examine_with(kind, &mut page[0..n])
 }
 
 fn examine_with(kind: u8, page: &mut [u8]) -> bool {

@@ -1,0 +1,61 @@
+-- `serve::page64` is safe and ends: what is lent fits the arrays. Assumes nothing.
+use native.Mathlib.Omega.{arith}
+use borrow.Author.Needs.{needs}
+use Rattle.calls.proofs.serve.page64.Statement.{statement}
+use Rattle.calls.proofs.serve.page64.Tie as tie
+use Rattle.calls.proofs.serve.page64.Reads as reads
+use Rattle.calls.proofs.serve.page64.Lts as lts
+use Rattle.calls.proofs.serve.read_with64.Reads as read-with64-reads
+
+sub-read-with64 : tie.Need-sub-read-with64
+sub-read-with64 c = omega arith
+
+part-page-start : tie.Need-part-page-start
+part-page-start c = omega arith
+
+part-page-end : tie.Need-part-page-end
+part-page-end c = omega arith
+
+mul-read-with64 : tie.Need-mul-read-with64
+mul-read-with64 c = omega arith
+
+sub-read-with64-2 : tie.Need-sub-read-with64-2
+sub-read-with64-2 c = omega arith
+
+part-raw-start : tie.Need-part-raw-start
+part-raw-start c = omega arith
+
+part-raw-end : tie.Need-part-raw-end
+part-raw-end c = omega arith
+
+sub-read-with64-3 : tie.Need-sub-read-with64-3
+sub-read-with64-3 c = omega arith
+
+part-out-start : tie.Need-part-out-start
+part-out-start c = omega arith
+
+part-out-end : tie.Need-part-out-end
+part-out-end c = omega arith
+
+read-with64-requires : tie.Need-read-with64-requires
+read-with64-requires c κs = search needs
+
+returns : tie.Need-returns
+returns c = search needs
+
+pub page64-spec : {M : Type 1} → statement M
+page64-spec =
+    tie.close
+    (tie.spec
+    sub-read-with64
+    part-page-start
+    part-page-end
+    mul-read-with64
+    sub-read-with64-2
+    part-raw-start
+    part-raw-end
+    sub-read-with64-3
+    part-out-start
+    part-out-end
+    read-with64-requires
+    returns)
