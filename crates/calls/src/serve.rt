@@ -6,6 +6,12 @@ use crate::frames::Request;
 use crate::frames::answer;
 use crate::frames::fill;
 use crate::frames::give;
+use crate::rooms::page_room;
+use crate::rooms::pairs_room;
+use crate::rooms::raw_room32;
+use crate::rooms::raw_room64;
+use crate::rooms::values_room32;
+use crate::rooms::values_room64;
 use columns::bytes32;
 use columns::bytes64;
 use columns::words32;
@@ -68,10 +74,10 @@ fn serve_column(r: Request, most: usize) -> bool
 fn column32(call: u8, s: u8, n: usize, b: usize, c: usize) -> bool
     requires { ⌜ (n ≤ 16400) × (b ≤ 4200) × (c ≤ 400000) ⌝ }
 {
-    let mut raw: [u8; 65600] = [0; 65600];
-    let mut values: [u32; 16400] = [0; 16400];
-    let mut pairs: [u8; 4200] = [0; 4200];
-    let mut out: [u8; 400000] = [0; 400000];
+    let mut raw = raw_room32();
+    let mut values = values_room32();
+    let mut pairs = pairs_room();
+    let mut out = page_room();
     write_with32(
         call,
         s,
@@ -85,10 +91,10 @@ fn column32(call: u8, s: u8, n: usize, b: usize, c: usize) -> bool
 fn column64(call: u8, s: u8, n: usize, b: usize, c: usize) -> bool
     requires { ⌜ (n ≤ 16400) × (b ≤ 4200) × (c ≤ 400000) ⌝ }
 {
-    let mut raw: [u8; 131200] = [0; 131200];
-    let mut values: [u64; 16400] = [0; 16400];
-    let mut pairs: [u8; 4200] = [0; 4200];
-    let mut out: [u8; 400000] = [0; 400000];
+    let mut raw = raw_room64();
+    let mut values = values_room64();
+    let mut pairs = pairs_room();
+    let mut out = page_room();
     write_with64(
         call,
         s,
@@ -125,10 +131,10 @@ fn write_with32(
     words32(raw, values);
     if call == 1 {
         answer(measure32(values, s, pairs));
-    } else {
-        answer(write32(values, s, pairs, out));
-        give(out);
+        return true;
     }
+    answer(write32(values, s, pairs, out));
+    give(out);
     true
 }
 
@@ -148,10 +154,10 @@ fn write_with64(
     words64(raw, values);
     if call == 1 {
         answer(measure64(values, s, pairs));
-    } else {
-        answer(write64(values, s, pairs, out));
-        give(out);
+        return true;
     }
+    answer(write64(values, s, pairs, out));
+    give(out);
     true
 }
 
@@ -179,18 +185,18 @@ fn serve_read(r: Request) -> bool {
 fn page32(n: usize, c: usize) -> bool
     requires { ⌜ (n ≤ 400000) × (c ≤ 16400) ⌝ }
 {
-    let mut page: [u8; 400000] = [0; 400000];
-    let mut raw: [u8; 65600] = [0; 65600];
-    let mut out: [u32; 16400] = [0; 16400];
+    let mut page = page_room();
+    let mut raw = raw_room32();
+    let mut out = values_room32();
     read_with32(&mut page[0..n], &mut raw[0..4 * c], &mut out[0..c])
 }
 
 fn page64(n: usize, c: usize) -> bool
     requires { ⌜ (n ≤ 400000) × (c ≤ 16400) ⌝ }
 {
-    let mut page: [u8; 400000] = [0; 400000];
-    let mut raw: [u8; 131200] = [0; 131200];
-    let mut out: [u64; 16400] = [0; 16400];
+    let mut page = page_room();
+    let mut raw = raw_room64();
+    let mut out = values_room64();
     read_with64(&mut page[0..n], &mut raw[0..8 * c], &mut out[0..c])
 }
 
@@ -246,7 +252,7 @@ fn serve_examine(r: Request) -> bool {
 fn examine_page(kind: u8, n: usize) -> bool
     requires { ⌜ n ≤ 400000 ⌝ }
 {
-    let mut page: [u8; 400000] = [0; 400000];
+    let mut page = page_room();
     examine_with(kind, &mut page[0..n])
 }
 
