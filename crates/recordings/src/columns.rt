@@ -55,9 +55,30 @@ fn title(kind: &[u8], s: u8, n: usize) {
     text(b":");
 }
 
+// The arrays, each from a function, so that a proof that cuts one knows its length alone, and not its elements.
+fn pairs_room() -> [u8; 4100] {
+    [0; 4100]
+}
+
+fn values_room32() -> [u32; 16385] {
+    [0; 16385]
+}
+
+fn values_room64() -> [u64; 16385] {
+    [0; 16385]
+}
+
+fn page_room32() -> [u8; 200000] {
+    [0xEE; 200000]
+}
+
+fn page_room64() -> [u8; 330000] {
+    [0xEE; 330000]
+}
+
 // A column of n values, which make so many vectors.
 fn column32(n: usize, s: u8, vectors: usize) {
-    let mut values: [u32; 16385] = [0; 16385];
+    let mut values = values_room32();
     fill32(&mut values);
     if 16385 < n {
         return;
@@ -67,7 +88,7 @@ fn column32(n: usize, s: u8, vectors: usize) {
 
 // Measured, then written.
 fn measured32(values: &[u32], s: u8, vectors: usize) {
-    let pairs: [u8; 4100] = [0; 4100];
+    let pairs = pairs_room();
     if 2050 < vectors {
         return;
     }
@@ -75,7 +96,7 @@ fn measured32(values: &[u32], s: u8, vectors: usize) {
     title(b"32", s, values.len());
     line(b"", b" measure ", measure32(values, s, settings));
     end();
-    let mut page: [u8; 200000] = [0xEE; 200000];
+    let mut page = page_room32();
     let wrote = write32(values, s, settings, &mut page);
     finish32(&page, wrote, values, s);
 }
@@ -101,7 +122,7 @@ fn finish32(page: &[u8], wrote: Answer, values: &[u32], s: u8) {
 }
 
 fn read_back32(page: &[u8], values: &[u32], s: u8) {
-    let mut back: [u32; 16385] = [0; 16385];
+    let mut back = values_room32();
     let n = values.len();
     title(b"32", s, n);
     line(b"", b" read ", read32(page, &mut back));
@@ -139,7 +160,7 @@ fn same32(values: &[u32], back: &[u32]) -> bool {
 
 // A column of n values, which make so many vectors.
 fn column64(n: usize, s: u8, vectors: usize) {
-    let mut values: [u64; 16385] = [0; 16385];
+    let mut values = values_room64();
     fill64(&mut values);
     if 16385 < n {
         return;
@@ -149,7 +170,7 @@ fn column64(n: usize, s: u8, vectors: usize) {
 
 // Measured, then written.
 fn measured64(values: &[u64], s: u8, vectors: usize) {
-    let pairs: [u8; 4100] = [0; 4100];
+    let pairs = pairs_room();
     if 2050 < vectors {
         return;
     }
@@ -157,7 +178,7 @@ fn measured64(values: &[u64], s: u8, vectors: usize) {
     title(b"64", s, values.len());
     line(b"", b" measure ", measure64(values, s, settings));
     end();
-    let mut page: [u8; 330000] = [0xEE; 330000];
+    let mut page = page_room64();
     let wrote = write64(values, s, settings, &mut page);
     finish64(&page, wrote, values, s);
 }
@@ -183,7 +204,7 @@ fn finish64(page: &[u8], wrote: Answer, values: &[u64], s: u8) {
 }
 
 fn read_back64(page: &[u8], values: &[u64], s: u8) {
-    let mut back: [u64; 16385] = [0; 16385];
+    let mut back = values_room64();
     let n = values.len();
     title(b"64", s, n);
     line(b"", b" read ", read64(page, &mut back));
