@@ -46,13 +46,15 @@ fn pattern64(i: usize) -> u64 {
     PATTERNS64[(i % 65536 * 5 + i % 65536 / 8) % 8]
 }
 
-fn title(kind: &[u8], s: u8, n: usize) {
-    text(kind);
+// Which column, the call and its answer.
+fn said(kind: u64, s: u8, n: usize, call: &[u8], a: Answer) {
+    number(kind);
     text(b" s ");
     number(s as u64);
     text(b" values ");
     number(n as u64);
     text(b":");
+    line(b"", call, a);
 }
 
 // The arrays, each from a function, so that a proof that cuts one knows its length alone, and not its elements.
@@ -93,8 +95,13 @@ fn measured32(values: &[u32], s: u8, vectors: usize) {
         return;
     }
     let settings = &pairs[0..2 * vectors];
-    title(b"32", s, values.len());
-    line(b"", b" measure ", measure32(values, s, settings));
+    said(
+        32,
+        s,
+        values.len(),
+        b" measure ",
+        measure32(values, s, settings),
+    );
     end();
     let mut page = page_room32();
     let wrote = write32(values, s, settings, &mut page);
@@ -103,8 +110,7 @@ fn measured32(values: &[u32], s: u8, vectors: usize) {
 
 // What was written, and what reader and examiner make of it.
 fn finish32(page: &[u8], wrote: Answer, values: &[u32], s: u8) {
-    title(b"32", s, values.len());
-    line(b"", b" write ", wrote);
+    said(32, s, values.len(), b" write ", wrote);
     let length = wrote.place;
     if (page.len() as u64) < length {
         end();
@@ -124,14 +130,12 @@ fn finish32(page: &[u8], wrote: Answer, values: &[u32], s: u8) {
 fn read_back32(page: &[u8], values: &[u32], s: u8) {
     let mut back = values_room32();
     let n = values.len();
-    title(b"32", s, n);
-    line(b"", b" read ", read32(page, &mut back));
+    said(32, s, n, b" read ", read32(page, &mut back));
     if same32(values, &back) {
         text(b" same");
     }
     end();
-    title(b"32", s, n);
-    line(b"", b" examine ", examine32(page));
+    said(32, s, n, b" examine ", examine32(page));
     end();
 }
 
@@ -175,8 +179,13 @@ fn measured64(values: &[u64], s: u8, vectors: usize) {
         return;
     }
     let settings = &pairs[0..2 * vectors];
-    title(b"64", s, values.len());
-    line(b"", b" measure ", measure64(values, s, settings));
+    said(
+        64,
+        s,
+        values.len(),
+        b" measure ",
+        measure64(values, s, settings),
+    );
     end();
     let mut page = page_room64();
     let wrote = write64(values, s, settings, &mut page);
@@ -185,8 +194,7 @@ fn measured64(values: &[u64], s: u8, vectors: usize) {
 
 // What was written, and what reader and examiner make of it.
 fn finish64(page: &[u8], wrote: Answer, values: &[u64], s: u8) {
-    title(b"64", s, values.len());
-    line(b"", b" write ", wrote);
+    said(64, s, values.len(), b" write ", wrote);
     let length = wrote.place;
     if (page.len() as u64) < length {
         end();
@@ -206,14 +214,12 @@ fn finish64(page: &[u8], wrote: Answer, values: &[u64], s: u8) {
 fn read_back64(page: &[u8], values: &[u64], s: u8) {
     let mut back = values_room64();
     let n = values.len();
-    title(b"64", s, n);
-    line(b"", b" read ", read64(page, &mut back));
+    said(64, s, n, b" read ", read64(page, &mut back));
     if same64(values, &back) {
         text(b" same");
     }
     end();
-    title(b"64", s, n);
-    line(b"", b" examine ", examine64(page));
+    said(64, s, n, b" examine ", examine64(page));
     end();
 }
 
