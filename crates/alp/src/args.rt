@@ -1,0 +1,117 @@
+// The words on the command line.
+use checks::kind::Kind;
+
+pub enum Job {
+    Write,
+    Read,
+    Examine,
+    Show,
+    Help,
+    Unknown,
+}
+
+pub enum KindWord {
+    Is(Kind),
+    Wrong,
+}
+
+pub enum ByteWord {
+    Is(u8),
+    Wrong,
+}
+
+fn same(a: &[u8], b: &[u8]) -> bool {
+    if a.len() != b.len() {
+        return false;
+    }
+    let mut i: usize = 0;
+    while i < a.len() {
+        if a[i] != b[i] {
+            return false;
+        }
+        i += 1;
+    }
+    true
+}
+
+// The first word. One that does not fit `word` is none of ours.
+pub fn first_word() -> Job {
+    let mut word: [u8; 8] = [0; 8];
+    let n = os::arg(1, &mut word);
+    if os::errno() != 0 {
+        return Job::Unknown;
+    }
+    named(&word[..n])
+}
+
+fn named(word: &[u8]) -> Job {
+    if same(word, b"write") {
+        return Job::Write;
+    }
+    if same(word, b"read") {
+        return Job::Read;
+    }
+    if same(word, b"examine") {
+        return Job::Examine;
+    }
+    if same(word, b"show") {
+        return Job::Show;
+    }
+    if same(word, b"help") {
+        return Job::Help;
+    }
+    Job::Unknown
+}
+
+// The float kind that word i names.
+pub fn kind(i: usize) -> KindWord {
+    let mut word: [u8; 8] = [0; 8];
+    let n = os::arg(i, &mut word);
+    if os::errno() != 0 {
+        return KindWord::Wrong;
+    }
+    kind_named(&word[..n])
+}
+
+fn kind_named(word: &[u8]) -> KindWord {
+    if same(word, b"32") {
+        return KindWord::Is(Kind::Single);
+    }
+    if same(word, b"64") {
+        return KindWord::Is(Kind::Double);
+    }
+    KindWord::Wrong
+}
+
+// The number from 0 to 255 that word i spells. Whether it is inside the page's limits is the library's to say.
+pub fn byte(i: usize) -> ByteWord {
+    let mut word: [u8; 8] = [0; 8];
+    let n = os::arg(i, &mut word);
+    if os::errno() != 0 {
+        return ByteWord::Wrong;
+    }
+    spelled(&word[..n])
+}
+
+fn spelled(word: &[u8]) -> ByteWord {
+    if word.len() == 0 {
+        return ByteWord::Wrong;
+    }
+    let mut number: u64 = 0;
+    let mut i: usize = 0;
+    while i < word.len() {
+        let digit = word[i];
+        if digit < b'0' {
+            return ByteWord::Wrong;
+        }
+        if b'9' < digit {
+            return ByteWord::Wrong;
+        }
+        number = number * 10 + (digit - b'0') as u64;
+        if 255 < number {
+            return ByteWord::Wrong;
+        }
+        i += 1;
+    }
+    ByteWord::Is(number as u8)
+}
