@@ -1,0 +1,318 @@
+/*
+ * Links the archive from C and tells one story: recorded columns of both kinds are measured, written, examined and read, refusals come
+ * where they should, and the helpers for the floating-point environment do their work. Every byte and every bit is compared with what
+ * stands written here. The first thing that fails is named on standard error and ends the program with status 1.
+ *
+ * The Rust program rust/strahnuk/examples/recording.rs tells the same story in the same words; link/run compares the two.
+ */
+#define _GNU_SOURCE /* feenableexcept */
+#include "../include/strahnuk.h"
+
+#include <fenv.h>
+#include <stdio.h>
+#include <stdlib.h>
+#include <string.h>
+
+#define COUNT(array) (sizeof(array) / sizeof((array)[0]))
+
+/* More than any page or column here needs, so that there is something behind each that must stay as it came. */
+#define ROOM 256
+#define UNTOUCHED_BYTE 0xA5
+
+static unsigned shown; /* how many lines were printed; a story that stops short is told from a whole one by the count */
+
+/* ---- what is recorded ---- */
+
+/* A column, its settings and its page. The values of the 32-bit kind stand here in 64 bits too, so that both kinds share the story. */
+typedef struct recording {
+    const char *name;
+    int bits;
+    uint8_t s;
+    uint8_t pair[2];
+    size_t count;
+    uint64_t values[8];
+    size_t length;
+    uint8_t page[96];
+} recording;
+
+/* link/run compiles this program a second time with a recorded byte changed, and then it has to fail. */
+#ifdef LINK_WRONG_BYTE
+#define LAST_OF_R2 0x3F
+#else
+#define LAST_OF_R2 0x3E
+#endif
+
+static const recording recordings[] = {
+    {"R1", 32, 10, {2, 0}, 4, {0x3F9D70A4, 0x4091EB85, 0x40FC7AE1, 0x3DF5C28F}, 26,
+     {0x01, 0x00, 0x00, 0x0A, 0x04, 0x00, 0x00, 0x00, 0x04, 0x00, 0x00, 0x00, 0x02, 0x00, 0x00, 0x00, 0x0C, 0x00, 0x00, 0x00, 0x0A,
+      0x6F, 0xF0, 0x96, 0x30, 0x00}},
+    {"R2", 32, 10, {1, 0}, 4, {0x3FC00000, 0x7FC00000, 0x40200000, 0x3EAAAAAB}, 35,
+     {0x01, 0x00, 0x00, 0x0A, 0x04, 0x00, 0x00, 0x00, 0x04, 0x00, 0x00, 0x00, 0x01, 0x00, 0x02, 0x00, 0x0F, 0x00, 0x00, 0x00, 0x04,
+      0x00, 0x0A, 0x01, 0x00, 0x03, 0x00, 0x00, 0x00, 0xC0, 0x7F, 0xAB, 0xAA, 0xAA, LAST_OF_R2}},
+    /* negative zero, a NaN with a payload, both infinities, 1.5, the smallest subnormal: all but 1.5 are exceptions */
+    {"specials", 32, 3, {1, 0}, 6, {0x80000000, 0x7FA12345, 0x7F800000, 0xFF800000, 0x3FC00000, 0x00000001}, 51,
+     {0x01, 0x00, 0x00, 0x03, 0x06, 0x00, 0x00, 0x00, 0x04, 0x00, 0x00, 0x00, 0x01, 0x00, 0x05, 0x00, 0x0F, 0x00, 0x00, 0x00, 0x00,
+      0x00, 0x00, 0x01, 0x00, 0x02, 0x00, 0x03, 0x00, 0x05, 0x00, 0x00, 0x00, 0x00, 0x80, 0x45, 0x23, 0xA1, 0x7F, 0x00, 0x00, 0x80,
+      0x7F, 0x00, 0x00, 0x80, 0xFF, 0x01, 0x00, 0x00, 0x00}},
+    {"R7", 64, 10, {1, 0}, 1, {0x3FF8000000000000}, 25,
+     {0x01, 0x00, 0x00, 0x0A, 0x01, 0x00, 0x00, 0x00, 0x04, 0x00, 0x00, 0x00, 0x01, 0x00, 0x00, 0x00, 0x0F, 0x00, 0x00, 0x00, 0x00,
+      0x00, 0x00, 0x00, 0x00}},
+    {"specials", 64, 3, {1, 0}, 6,
+     {0x8000000000000000, 0xFFF123456789ABCD, 0x7FF0000000000000, 0xFFF0000000000000, 0x3FF8000000000000, 0x0000000000000001}, 75,
+     {0x01, 0x00, 0x00, 0x03, 0x06, 0x00, 0x00, 0x00, 0x04, 0x00, 0x00, 0x00, 0x01, 0x00, 0x05, 0x00, 0x0F, 0x00, 0x00, 0x00, 0x00,
+      0x00, 0x00, 0x00, 0x00, 0x00, 0x00, 0x01, 0x00, 0x02, 0x00, 0x03, 0x00, 0x05, 0x00, 0x00, 0x00, 0x00, 0x00, 0x00, 0x00, 0x00,
+      0x80, 0xCD, 0xAB, 0x89, 0x67, 0x45, 0x23, 0xF1, 0xFF, 0x00, 0x00, 0x00, 0x00, 0x00, 0x00, 0xF0, 0x7F, 0x00, 0x00, 0x00, 0x00,
+      0x00, 0x00, 0xF0, 0xFF, 0x01, 0x00, 0x00, 0x00, 0x00, 0x00, 0x00, 0x00}}};
+
+/* Tenths and hundredths whose way there and back rounds to nearest; rounded upward some come back with other bits. */
+static const double hundredths[] = {0.1, 0.7, 1.23, 4.56, 7.89, 0.29, 1.1, 2.2};
+
+/* ---- saying what was seen ---- */
+
+static void fail(const char *name, int bits, const char *what)
+{
+    fflush(stdout);
+    fprintf(stderr, "recording: %s, %d-bit: %s\n", name, bits, what);
+    exit(1);
+}
+
+static void expect(int holds, const recording *r, const char *what)
+{
+    if (!holds)
+        fail(r->name, r->bits, what);
+}
+
+static void expect_answer(strahnuk_answer answer, uint64_t number, uint64_t vector, uint64_t place, const recording *r, const char *what)
+{
+    char line[200];
+    if (answer.number == number && answer.vector == vector && answer.place == place)
+        return;
+    snprintf(line, sizeof line, "%s answers %llu %llu %llu (%s), not %llu %llu %llu", what, (unsigned long long)answer.number,
+             (unsigned long long)answer.vector, (unsigned long long)answer.place, strahnuk_sentence(answer.number),
+             (unsigned long long)number, (unsigned long long)vector, (unsigned long long)place);
+    fail(r->name, r->bits, line);
+}
+
+static void show(const recording *r, const char *what)
+{
+    printf("%s, %d-bit: %s\n", r->name, r->bits, what);
+    shown++;
+}
+
+/* ---- one call for both kinds ---- */
+
+static void narrow(const recording *r, uint32_t *values)
+{
+    size_t i;
+    for (i = 0; i < r->count; i++)
+        values[i] = (uint32_t)r->values[i];
+}
+
+static strahnuk_answer measured(const recording *r)
+{
+    uint32_t values[8];
+    narrow(r, values);
+    return r->bits == 32 ? alp_measure32(values, r->count, r->s, r->pair, sizeof r->pair)
+                         : alp_measure64(r->values, r->count, r->s, r->pair, sizeof r->pair);
+}
+
+static strahnuk_answer written(const recording *r, uint8_t *out, size_t length)
+{
+    uint32_t values[8];
+    narrow(r, values);
+    return r->bits == 32 ? alp_write32(values, r->count, r->s, r->pair, sizeof r->pair, out, length)
+                         : alp_write64(r->values, r->count, r->s, r->pair, sizeof r->pair, out, length);
+}
+
+static strahnuk_answer examined(const recording *r, const uint8_t *page, size_t length)
+{
+    return r->bits == 32 ? alp_examine32(page, length) : alp_examine64(page, length);
+}
+
+/* Reads into the first `length` of ROOM lent values, and gives all ROOM in 64 bits. */
+static strahnuk_answer got(const recording *r, const uint8_t *page, size_t page_length, uint64_t *out, size_t length)
+{
+    uint32_t values[ROOM];
+    strahnuk_answer answer;
+    size_t i;
+    memset(values, UNTOUCHED_BYTE, sizeof values);
+    memset(out, UNTOUCHED_BYTE, ROOM * sizeof *out);
+    if (r->bits == 64)
+        return alp_read64(page, page_length, out, length);
+    answer = alp_read32(page, page_length, values, length);
+    for (i = 0; i < ROOM; i++)
+        out[i] = values[i];
+    return answer;
+}
+
+static int untouched_bytes(const uint8_t *from, const uint8_t *end)
+{
+    while (from < end)
+        if (*from++ != UNTOUCHED_BYTE)
+            return 0;
+    return 1;
+}
+
+static int untouched_values(const recording *r, const uint64_t *from, const uint64_t *end)
+{
+    uint64_t mark = r->bits == 32 ? 0xA5A5A5A5 : 0xA5A5A5A5A5A5A5A5;
+    while (from < end)
+        if (*from++ != mark)
+            return 0;
+    return 1;
+}
+
+/* ---- the story ---- */
+
+static size_t tell_written(const recording *r, uint8_t *page)
+{
+    char line[3 * ROOM + 80];
+    size_t metadata = r->bits == 32 ? 9 : 13, i, at;
+    /* one vector each, so this is document 01's bound */
+    size_t room = 8 + (4 + metadata) + r->count * (size_t)(2 * r->bits / 8 + 2);
+    expect_answer(measured(r), STRAHNUK_DONE, 0, room, r, "measure");
+
+    memset(page, UNTOUCHED_BYTE, ROOM);
+    expect_answer(written(r, page, ROOM), STRAHNUK_DONE, 0, r->length, r, "write");
+    for (i = 0; i < r->length; i++)
+        if (page[i] != r->page[i]) {
+            snprintf(line, sizeof line, "byte %lu of the page is %02X, not %02X", (unsigned long)i, page[i], r->page[i]);
+            fail(r->name, r->bits, line);
+        }
+    expect(untouched_bytes(page + r->length, page + ROOM), r, "a byte past the page was changed");
+    at = (size_t)snprintf(line, sizeof line, "count %lu, room %lu, page %lu:", (unsigned long)r->count, (unsigned long)room,
+                          (unsigned long)r->length);
+    for (i = 0; i < r->length; i++)
+        at += (size_t)snprintf(line + at, sizeof line - at, " %02X", page[i]);
+    show(r, line);
+    return room;
+}
+
+static void tell_read(const recording *r, const uint8_t *page)
+{
+    uint64_t values[ROOM];
+    size_t i;
+    expect_answer(examined(r, page, r->length), STRAHNUK_DONE, 0, r->count, r, "examine");
+    show(r, "examined, it is a page");
+    expect_answer(got(r, page, r->length, values, ROOM), STRAHNUK_DONE, 0, r->count, r, "read");
+    for (i = 0; i < r->count; i++)
+        expect(values[i] == r->values[i], r, "a value comes back with other bits");
+    expect(untouched_values(r, values + r->count, values + ROOM), r, "a value past the column was changed");
+    show(r, "every bit comes back, and what lies past the page and the column stays");
+}
+
+static void tell_refused(const recording *r, const uint8_t *page, size_t room)
+{
+    uint8_t longer[ROOM], out[ROOM];
+    uint64_t values[ROOM];
+    memset(out, UNTOUCHED_BYTE, ROOM);
+    expect_answer(written(r, out, room - 1), STRAHNUK_OUTPUT_TOO_SHORT, 0, 0, r, "write with room one byte short");
+    expect(untouched_bytes(out, out + ROOM), r, "a refused write changed the output");
+    expect_answer(written(r, out, room), STRAHNUK_DONE, 0, r->length, r, "write with the very room measured");
+    expect_answer(got(r, page, r->length, values, r->count - 1), STRAHNUK_OUTPUT_TOO_SHORT, 0, 0, r, "read with room one value short");
+    expect(untouched_values(r, values, values + ROOM), r, "a refused read changed the output");
+    show(r, "15, the lent output is too short, by one byte or one value; the output stays");
+
+    memcpy(longer, page, r->length);
+    longer[r->length] = 0;
+    expect_answer(examined(r, longer, r->length + 1), STRAHNUK_BYTES_AFTER, 0, 0, r, "examine with one byte more");
+    expect_answer(got(r, longer, r->length + 1, values, ROOM), STRAHNUK_BYTES_AFTER, 0, 0, r, "read with one byte more");
+    expect(untouched_values(r, values, values + ROOM), r, "a refused read changed the output");
+    show(r, "14, bytes after the last vector, by one byte; the output stays");
+}
+
+/* Empty slices come as NULL here: the header says that any pointer will do. */
+static void tell_empty(int bits)
+{
+    static const uint8_t header[8] = {0x01, 0x00, 0x00, 0x0A, 0x00, 0x00, 0x00, 0x00};
+    recording none = {"nothing", 0, 10, {0, 0}, 0, {0}, 0, {0}};
+    uint8_t page[ROOM];
+    none.bits = bits;
+    memset(page, UNTOUCHED_BYTE, ROOM);
+    expect_answer(bits == 32 ? alp_measure32(NULL, 0, 10, NULL, 0) : alp_measure64(NULL, 0, 10, NULL, 0),
+                  STRAHNUK_DONE, 0, 8, &none, "measure");
+    expect_answer(bits == 32 ? alp_write32(NULL, 0, 10, NULL, 0, NULL, 0) : alp_write64(NULL, 0, 10, NULL, 0, NULL, 0),
+                  STRAHNUK_OUTPUT_TOO_SHORT, 0, 0, &none, "write into nothing");
+    expect_answer(bits == 32 ? alp_write32(NULL, 0, 10, NULL, 0, page, ROOM) : alp_write64(NULL, 0, 10, NULL, 0, page, ROOM),
+                  STRAHNUK_DONE, 0, 8, &none, "write");
+    expect(memcmp(page, header, sizeof header) == 0, &none, "the page is not the header alone");
+    expect(untouched_bytes(page + 8, page + ROOM), &none, "a byte past the page was changed");
+    expect_answer(bits == 32 ? alp_read32(page, 8, NULL, 0) : alp_read64(page, 8, NULL, 0), STRAHNUK_DONE, 0, 0, &none, "read");
+    expect_answer(examined(&none, page, 8), STRAHNUK_DONE, 0, 0, &none, "examine");
+    show(&none, "no values give the header alone, and come back");
+    expect_answer(examined(&none, NULL, 0), STRAHNUK_FEW_BYTES, 0, 0, &none, "examine");
+    expect_answer(bits == 32 ? alp_read32(NULL, 0, NULL, 0) : alp_read64(NULL, 0, NULL, 0), STRAHNUK_FEW_BYTES, 0, 0, &none, "read");
+    show(&none, "1, fewer than 8 bytes");
+}
+
+/* The float nearest to 0.1 lies above it, so 0.1 x 10 is 1 to nearest and more upward. `volatile`: the processor multiplies here. */
+static int rounds_upward(void)
+{
+    volatile double tenth = 0.1, ten = 10.0, product;
+    product = tenth * ten;
+    return product > 1.0;
+}
+
+static void tell_floats(const recording *r)
+{
+    uint64_t values[COUNT(hundredths)], back[COUNT(hundredths)];
+    uint8_t plain[ROOM], upward[ROOM];
+    strahnuk_answer first, second, third;
+    int rounding, traps;
+    uint32_t was;
+    memcpy(values, hundredths, sizeof values);
+    memset(plain, UNTOUCHED_BYTE, ROOM);
+    memset(upward, UNTOUCHED_BYTE, ROOM);
+    first = alp_write64(values, COUNT(values), 3, r->pair, 2, plain, ROOM);
+
+    expect(!rounds_upward(), r, "the program does not start with rounding to nearest");
+    expect(fesetround(FE_UPWARD) == 0 && rounds_upward(), r, "upward rounding can't be set");
+    feclearexcept(FE_ALL_EXCEPT);
+    expect(feenableexcept(FE_ALL_EXCEPT) != -1, r, "traps can't be set");
+    was = strahnuk_floats_plain();
+    second = alp_write64(values, COUNT(values), 3, r->pair, 2, upward, ROOM);
+    third = alp_read64(upward, (size_t)second.place, back, COUNT(back));
+    strahnuk_floats_restore(was);
+    rounding = fegetround();
+    traps = fegetexcept();
+    fedisableexcept(FE_ALL_EXCEPT);
+    expect(fetestexcept(FE_ALL_EXCEPT) == 0, r, "the calls left a sticky flag");
+    expect(fesetround(FE_TONEAREST) == 0, r, "rounding to nearest can't be set again");
+
+    expect(rounding == FE_UPWARD && traps == FE_ALL_EXCEPT, r, "the helpers did not restore the environment");
+    expect(first.number == STRAHNUK_DONE && first.place > 8 && second.place == first.place, r, "the pages differ in length");
+    expect(memcmp(plain, upward, ROOM) == 0, r, "the pages differ");
+    expect_answer(third, STRAHNUK_DONE, 0, COUNT(values), r, "read");
+    expect(memcmp(values, back, sizeof values) == 0, r, "a value comes back with other bits");
+    show(r, "upward rounding and traps of the host change no byte, and stand afterwards");
+}
+
+/* The header's sentences, so that the comparison with the Rust program covers them too. */
+static void tell_sentences(void)
+{
+    const char *none = strahnuk_sentence(UINT64_MAX);
+    unsigned number;
+    for (number = 1; number < 100; number++)
+        if (strcmp(strahnuk_sentence(number), none) != 0) {
+            printf("row %u: %s\n", number, strahnuk_sentence(number));
+            shown++;
+        }
+}
+
+int main(void)
+{
+    static const recording floats = {"floats", 64, 3, {2, 0}, 0, {0}, 0, {0}};
+    uint8_t page[ROOM];
+    size_t i, room;
+    for (i = 0; i < COUNT(recordings); i++) {
+        room = tell_written(&recordings[i], page);
+        tell_read(&recordings[i], page);
+        tell_refused(&recordings[i], page, room);
+    }
+    tell_empty(32);
+    tell_empty(64);
+    tell_floats(&floats);
+    tell_sentences();
+    printf("%u things shown\n", shown);
+    return 0;
+}

@@ -1,0 +1,328 @@
+//! Tells the story of link/recording.c through the wrapper, in the same words: recorded columns of both kinds are measured, written,
+//! examined and read, refusals come where they should, and the host's floating-point environment changes nothing. Every byte and every
+//! bit is compared with what stands written here; the first thing that fails ends the program. link/run compares the two programs' lines.
+use std::arch::asm;
+use std::fmt::Debug;
+use strahnuk::*;
+
+/// A column, its settings and its page, as hexadecimal digits.
+struct Recording<B> {
+    name: &'static str,
+    s: u8,
+    pair: Pair,
+    values: Vec<B>,
+    page: &'static str,
+}
+
+type Outcome = Result<usize, Refusal>;
+
+/// The calls of one kind, so that the story is written once.
+struct Kind<B> {
+    bits: usize,
+    metadata: usize,
+    /// What lies in an output before the call.
+    mark: B,
+    measure: fn(&[B], u8, &[Pair]) -> Outcome,
+    write_into: fn(&[B], u8, &[Pair], &mut [u8]) -> Outcome,
+    read_into: fn(&[u8], &mut [B]) -> Outcome,
+    examine: fn(&[u8]) -> Outcome,
+}
+
+const SINGLE: Kind<u32> = Kind {
+    bits: 32,
+    metadata: 9,
+    mark: 0xA5A5_A5A5,
+    measure: measure32,
+    write_into: write_into32,
+    read_into: read_into32,
+    examine: examine32,
+};
+
+const DOUBLE: Kind<u64> = Kind {
+    bits: 64,
+    metadata: 13,
+    mark: 0xA5A5_A5A5_A5A5_A5A5,
+    measure: measure64,
+    write_into: write_into64,
+    read_into: read_into64,
+    examine: examine64,
+};
+
+/// More than any page or column here needs, so that there is something behind each that must stay as it came.
+const ROOM: usize = 256;
+const UNTOUCHED: u8 = 0xA5;
+
+fn refused(row: Row) -> Outcome {
+    Err(Refusal { row, vector: 0, place: 0 })
+}
+
+fn hexadecimal(bytes: &[u8]) -> String {
+    let digits: Vec<String> = bytes.iter().map(|byte| format!("{:02X}", byte)).collect();
+    digits.join(" ")
+}
+
+/// Prints what was shown, and counts it.
+struct Teller {
+    shown: u32,
+}
+
+impl Teller {
+    fn show(&mut self, name: &str, bits: usize, what: &str) {
+        println!("{}, {}-bit: {}", name, bits, what);
+        self.shown += 1;
+    }
+
+    fn tell<B: Copy + PartialEq + Debug>(&mut self, kind: &Kind<B>, recording: &Recording<B>) {
+        let (page, room) = self.tell_written(kind, recording);
+        self.tell_read(kind, recording, &page);
+        self.tell_refused(kind, recording, &page, room);
+    }
+
+    fn tell_written<B: Copy>(
+        &mut self,
+        kind: &Kind<B>,
+        recording: &Recording<B>,
+    ) -> (Vec<u8>, usize) {
+        let Recording { name, s, pair, ref values, page } = *recording;
+        // One vector each, so this is document 01's bound.
+        let room = 8 + (4 + kind.metadata) + values.len() * (2 * kind.bits / 8 + 2);
+        assert_eq!((kind.measure)(values, s, &[pair]), Ok(room), "{}: measure", name);
+
+        let mut out = vec![UNTOUCHED; ROOM];
+        let length = (kind.write_into)(values, s, &[pair], &mut out).expect(name);
+        assert_eq!(hexadecimal(&out[..length]), page, "{}: write", name);
+        assert!(
+            out[length..].iter().all(|&byte| byte == UNTOUCHED),
+            "{}: a byte past the page was changed",
+            name
+        );
+        let line = format!(
+            "count {}, room {}, page {}: {}",
+            values.len(),
+            room,
+            length,
+            hexadecimal(&out[..length])
+        );
+        self.show(name, kind.bits, &line);
+        out.truncate(length);
+        (out, room)
+    }
+
+    fn tell_read<B: Copy + PartialEq + Debug>(
+        &mut self,
+        kind: &Kind<B>,
+        recording: &Recording<B>,
+        page: &[u8],
+    ) {
+        let Recording { name, ref values, .. } = *recording;
+        assert_eq!((kind.examine)(page), Ok(values.len()), "{}: examine", name);
+        self.show(name, kind.bits, "examined, it is a page");
+        let mut out = vec![kind.mark; ROOM];
+        assert_eq!((kind.read_into)(page, &mut out), Ok(values.len()), "{}: read", name);
+        assert_eq!(out[..values.len()], values[..], "{}: a value comes back with other bits", name);
+        assert!(
+            out[values.len()..].iter().all(|&value| value == kind.mark),
+            "{}: a value past the column was changed",
+            name
+        );
+        self.show(
+            name,
+            kind.bits,
+            "every bit comes back, and what lies past the page and the column stays",
+        );
+    }
+
+    fn tell_refused<B: Copy + PartialEq + Debug>(
+        &mut self,
+        kind: &Kind<B>,
+        recording: &Recording<B>,
+        page: &[u8],
+        room: usize,
+    ) {
+        let Recording { name, s, pair, ref values, .. } = *recording;
+        let mut out = vec![UNTOUCHED; room];
+        let short = (kind.write_into)(values, s, &[pair], &mut out[..room - 1]);
+        assert_eq!(short, refused(Row::OutputTooShort), "{}: write with room one byte short", name);
+        assert_eq!(out, vec![UNTOUCHED; room], "{}: a refused write changed the output", name);
+        assert_eq!(
+            (kind.write_into)(values, s, &[pair], &mut out),
+            Ok(page.len()),
+            "{}: write with the room measured",
+            name
+        );
+
+        let mut back = vec![kind.mark; values.len()];
+        let short = (kind.read_into)(page, &mut back[..values.len() - 1]);
+        assert_eq!(short, refused(Row::OutputTooShort), "{}: read with room one value short", name);
+        assert_eq!(
+            back,
+            vec![kind.mark; values.len()],
+            "{}: a refused read changed the output",
+            name
+        );
+        self.show(
+            name,
+            kind.bits,
+            "15, the lent output is too short, by one byte or one value; the output stays",
+        );
+
+        let longer = [page, &[0]].concat();
+        assert_eq!(
+            (kind.examine)(&longer),
+            refused(Row::BytesAfter),
+            "{}: examine with one byte more",
+            name
+        );
+        assert_eq!(
+            (kind.read_into)(&longer, &mut back),
+            refused(Row::BytesAfter),
+            "{}: read with one byte more",
+            name
+        );
+        assert_eq!(
+            back,
+            vec![kind.mark; values.len()],
+            "{}: a refused read changed the output",
+            name
+        );
+        self.show(
+            name,
+            kind.bits,
+            "14, bytes after the last vector, by one byte; the output stays",
+        );
+    }
+
+    fn tell_empty<B: Copy>(&mut self, kind: &Kind<B>) {
+        let mut page = vec![UNTOUCHED; ROOM];
+        assert_eq!((kind.measure)(&[], 10, &[]), Ok(8));
+        assert_eq!((kind.write_into)(&[], 10, &[], &mut []), refused(Row::OutputTooShort));
+        assert_eq!((kind.write_into)(&[], 10, &[], &mut page), Ok(8));
+        assert_eq!(hexadecimal(&page[..8]), "01 00 00 0A 00 00 00 00");
+        assert!(
+            page[8..].iter().all(|&byte| byte == UNTOUCHED),
+            "a byte past the page was changed"
+        );
+        assert_eq!((kind.read_into)(&page[..8], &mut []), Ok(0));
+        assert_eq!((kind.examine)(&page[..8]), Ok(0));
+        self.show("nothing", kind.bits, "no values give the header alone, and come back");
+        assert_eq!((kind.examine)(&[]), refused(Row::FewBytes));
+        assert_eq!((kind.read_into)(&[], &mut []), refused(Row::FewBytes));
+        self.show("nothing", kind.bits, "1, fewer than 8 bytes");
+    }
+
+    fn tell_floats(&mut self) {
+        const UPWARD_WITH_TRAPS: u32 = 0x4000;
+        let column = [0.1, 0.7, 1.23, 4.56, 7.89, 0.29, 1.1, 2.2].map(f64::to_bits);
+        let pairs = [Pair { exponent: 2, factor: 0 }];
+        let (mut page, mut back) = ([UNTOUCHED; ROOM], [0; 8]);
+        let plain = write64(&column, 3, &pairs).expect("floats");
+        let was = exchange_mxcsr(UPWARD_WITH_TRAPS);
+        let written = write_into64(&column, 3, &pairs, &mut page);
+        let read = read_into64(&page[..written.unwrap_or(0)], &mut back);
+        let left = exchange_mxcsr(was);
+        assert_eq!(
+            left, UPWARD_WITH_TRAPS,
+            "the environment was not restored, or a sticky flag was left"
+        );
+        assert_eq!(written, Ok(plain.len()));
+        assert_eq!(page[..plain.len()], plain, "the pages differ");
+        assert_eq!(read, Ok(column.len()));
+        assert_eq!(back, column, "a value comes back with other bits");
+        self.show(
+            "floats",
+            64,
+            "upward rounding and traps of the host change no byte, and stand afterwards",
+        );
+    }
+
+    /// The rows' sentences, so that the comparison with the C program covers its header's too.
+    fn tell_sentences(&mut self) {
+        for row in (1..100).filter_map(Row::from_number) {
+            println!("row {}: {}", row.number(), row.sentence());
+            self.shown += 1;
+        }
+    }
+}
+
+/// Sets the floating-point environment, and gives the one before: here this program plays a host that rounds upward and traps.
+fn exchange_mxcsr(value: u32) -> u32 {
+    let mut was = 0_u32;
+    // SAFETY: each instruction moves four bytes, and each variable has four. Until the environment is set back, this program itself does
+    // no arithmetic on floats.
+    unsafe {
+        asm!("stmxcsr [{}]", "ldmxcsr [{}]", in(reg) &mut was, in(reg) &value, options(nostack));
+    }
+    was
+}
+
+/// R1, R2, and negative zero, a NaN with a payload, both infinities, 1.5 and the smallest subnormal: all but 1.5 are exceptions.
+fn singles() -> [Recording<u32>; 3] {
+    [
+        Recording {
+            name: "R1",
+            s: 10,
+            pair: Pair { exponent: 2, factor: 0 },
+            values: [1.23_f32, 4.56, 7.89, 0.12].map(f32::to_bits).to_vec(),
+            page: "01 00 00 0A 04 00 00 00 04 00 00 00 02 00 00 00 0C 00 00 00 0A 6F F0 96 30 00",
+        },
+        Recording {
+            name: "R2",
+            s: 10,
+            pair: Pair { exponent: 1, factor: 0 },
+            values: vec![0x3FC0_0000, 0x7FC0_0000, 0x4020_0000, 0x3EAA_AAAB],
+            page: "01 00 00 0A 04 00 00 00 04 00 00 00 01 00 02 00 0F 00 00 00 04 00 0A 01 00 03 00 00 00 C0 7F AB AA AA 3E",
+        },
+        Recording {
+            name: "specials",
+            s: 3,
+            pair: Pair { exponent: 1, factor: 0 },
+            values: vec![0x8000_0000, 0x7FA1_2345, 0x7F80_0000, 0xFF80_0000, 0x3FC0_0000, 0x0000_0001],
+            page: "01 00 00 03 06 00 00 00 04 00 00 00 01 00 05 00 0F 00 00 00 00 00 00 01 00 02 00 03 00 05 00 \
+                   00 00 00 80 45 23 A1 7F 00 00 80 7F 00 00 80 FF 01 00 00 00",
+        },
+    ]
+}
+
+/// R7, and the same special values in 64 bits.
+fn doubles() -> [Recording<u64>; 2] {
+    [
+        Recording {
+            name: "R7",
+            s: 10,
+            pair: Pair { exponent: 1, factor: 0 },
+            values: vec![1.5_f64.to_bits()],
+            page: "01 00 00 0A 01 00 00 00 04 00 00 00 01 00 00 00 0F 00 00 00 00 00 00 00 00",
+        },
+        Recording {
+            name: "specials",
+            s: 3,
+            pair: Pair { exponent: 1, factor: 0 },
+            values: vec![
+                0x8000_0000_0000_0000,
+                0xFFF1_2345_6789_ABCD,
+                0x7FF0_0000_0000_0000,
+                0xFFF0_0000_0000_0000,
+                0x3FF8_0000_0000_0000,
+                0x0000_0000_0000_0001,
+            ],
+            page: "01 00 00 03 06 00 00 00 04 00 00 00 01 00 05 00 0F 00 00 00 00 00 00 00 00 00 00 01 00 02 00 03 00 05 00 \
+                   00 00 00 00 00 00 00 80 CD AB 89 67 45 23 F1 FF 00 00 00 00 00 00 F0 7F 00 00 00 00 00 00 F0 FF \
+                   01 00 00 00 00 00 00 00",
+        },
+    ]
+}
+
+fn main() {
+    let mut teller = Teller { shown: 0 };
+    for recording in &singles() {
+        teller.tell(&SINGLE, recording);
+    }
+    for recording in &doubles() {
+        teller.tell(&DOUBLE, recording);
+    }
+    teller.tell_empty(&SINGLE);
+    teller.tell_empty(&DOUBLE);
+    teller.tell_floats();
+    teller.tell_sentences();
+    println!("{} things shown", teller.shown);
+}

@@ -1,0 +1,289 @@
+//! Pages of ALP-encoded float columns that give back every bit or say no: the proved archive `libabi.a`, called safely.
+//!
+//! A column of 32- or 64-bit floats is written to a page of bytes and comes back exactly, negative zeros, NaN payloads, infinities and
+//! subnormals included. The calls take bit patterns, since bits are the point; functions with `f32` and `f64` in their names take floats
+//! and go by `to_bits` and `from_bits`, with no arithmetic.
+//!
+//! ```
+//! use strahnuk::{examine64, read64, write64, Pair, Row};
+//!
+//! # fn main() -> Result<(), strahnuk::Refusal> {
+//! // Two decimals each, but for a NaN with a payload and a negative zero.
+//! let column = [1.23_f64.to_bits(), 0x7FF8_0000_0000_BEEF, 4.56_f64.to_bits(), (-0.0_f64).to_bits()];
+//!
+//! // Vectors of 2^10 values, so this is one vector, and it gets one pair: values times 10^2 are whole numbers.
+//! let page = write64(&column, 10, &[Pair { exponent: 2, factor: 0 }])?;
+//! assert_eq!(read64(&page)?, column);
+//!
+//! // The examiner accepts exactly the pages that the writer gives.
+//! assert_eq!(examine64(&page)?, 4);
+//! let mut longer = page.clone();
+//! longer.push(0);
+//! let refusal = examine64(&longer).unwrap_err();
+//! assert_eq!(refusal.row, Row::BytesAfter);
+//! assert_eq!(refusal.to_string(), "14 0 0: bytes after the last vector");
+//! # Ok(())
+//! # }
+//! ```
+//!
+//! # Linking
+//!
+//! `rt staticlib abi`, in the project's root folder, makes the archive. The build script looks for it there, in `target/staticlib`, or in
+//! the folder that the environment variable `STRAHNUK_LIB` names. The archive is for x86-64 alone.
+//!
+//! # What stands around a call
+//!
+//! Every call runs with rounding to nearest, exceptions masked and no sticky flag, and gives the host's environment (MXCSR) back as it
+//! was: directed rounding, traps or flushed subnormals of the host change no byte and no answer. The calls keep no state and may run on
+//! several threads at once.
+//!
+//! A refusal is an `Err`, and then everything lent is as it came. Should the archive ever answer a number that is not in the table of
+//! [`Row`], then this crate and the archive don't belong together, and the call panics with that number.
+#![deny(missing_docs, unsafe_code, unsafe_op_in_unsafe_fn)]
+
+#[cfg(not(all(target_arch = "x86_64", target_pointer_width = "64", unix)))]
+compile_error!("strahnuk: the archive is for x86-64, under the System V calling convention");
+
+#[allow(unsafe_code)]
+mod foreign;
+mod refusal;
+
+pub use refusal::{Refusal, Row};
+
+/// A page holds at most this many values.
+pub const MOST_VALUES: usize = 16_384;
+
+/// The settings of one vector: its values times 10^exponent, then times 10^-factor, are to be whole numbers. A value for which they are
+/// not is an exception: it is stored whole and comes back all the same.
+///
+/// ```
+/// let hundredths = strahnuk::Pair { exponent: 2, factor: 0 };
+/// assert!(strahnuk::measure64(&[0; 8], 3, &[hundredths]).is_ok());
+/// ```
+#[derive(Clone, Copy, Debug, Default, PartialEq, Eq, Hash)]
+#[repr(C)]
+pub struct Pair {
+    /// At most 10 for 32-bit values, 18 for 64-bit ones.
+    pub exponent: u8,
+    /// At most the exponent.
+    pub factor: u8,
+}
+
+/// Turns an answer into what a Rust program expects: done's place, or the refusal.
+fn outcome(answer: foreign::Answer) -> Result<usize, Refusal> {
+    let foreign::Answer { number, vector, place } = answer;
+    if number == 0 {
+        return Ok(place as usize);
+    }
+    match Row::from_number(number) {
+        Some(row) => Err(Refusal { row, vector, place }),
+        None => panic!("strahnuk: the archive answered {}, which is not in the table: it is not of this crate's version", number),
+    }
+}
+
+/// How many values to lend the reader for these bytes, which may be anyone's. The count stands in bytes 4 to 8, and a hostile one must not
+/// size an allocation: a page with more than 16,384 values is refused for that before its output is looked at (row 6 comes before 15), so
+/// no more than 16,384 need to be lent. With fewer than 8 bytes nothing need be. Either way the answer is the archive's.
+fn values_to_lend(page: &[u8]) -> usize {
+    match page.get(4..8) {
+        Some(count) => {
+            let count = u32::from_le_bytes([count[0], count[1], count[2], count[3]]);
+            MOST_VALUES.min(count as usize)
+        }
+        None => 0,
+    }
+}
+
+/// The public calls of one kind. The two kinds differ in names and widths alone, so they are written once; `$n` is the kind's 32 or 64, for
+/// the names in the documentation and its examples.
+macro_rules! kind {
+    (
+        $n:literal $bits:ident $float:ident:
+        $measure:ident $write:ident $write_into:ident $read:ident $read_into:ident $examine:ident $write_floats:ident $read_floats:ident
+    ) => {
+        #[doc = concat!("The room in bytes that [`write_into", $n, "`] asks for: a bound, so the page may be shorter.")]
+        ///
+        /// Rows in order: 5, 6, 16, then 9 and 10 vector by vector.
+        ///
+        /// ```
+        #[doc = concat!("use strahnuk::{measure", $n, ", write", $n, ", Pair};")]
+        /// # fn main() -> Result<(), strahnuk::Refusal> {
+        #[doc = concat!("let column = [1.5_f", $n, ".to_bits(), 2.5_f", $n, ".to_bits()];")]
+        /// let pairs = [Pair { exponent: 1, factor: 0 }];
+        #[doc = concat!("let room = measure", $n, "(&column, 10, &pairs)?;")]
+        #[doc = concat!("assert!(write", $n, "(&column, 10, &pairs)?.len() <= room);")]
+        /// # Ok(())
+        /// # }
+        /// ```
+        pub fn $measure(values: &[$bits], s: u8, pairs: &[Pair]) -> Result<usize, Refusal> {
+            outcome(foreign::$measure(values, s, pairs))
+        }
+
+        /// The page of these bit patterns, in vectors of 2^`s` values with one pair each.
+        ///
+        /// Rows in order: 5, 6, 16, then 9 and 10 vector by vector.
+        ///
+        /// ```
+        #[doc = concat!("use strahnuk::{write", $n, ", Pair, Row};")]
+        /// # fn main() -> Result<(), strahnuk::Refusal> {
+        #[doc = concat!("let column = [7.0_f", $n, ".to_bits(); 9];")]
+        /// let pairs = [Pair::default(), Pair::default()];
+        #[doc = concat!("let page = write", $n, "(&column, 3, &pairs)?;")]
+        /// assert_eq!(page[..8], [1, 0, 0, 3, 9, 0, 0, 0]);
+        ///
+        /// // Nine values in vectors of eight are two vectors: one pair is not enough.
+        #[doc = concat!("let refusal = write", $n, "(&column, 3, &pairs[..1]).unwrap_err();")]
+        /// assert_eq!(refusal.row, Row::Pairs);
+        /// # Ok(())
+        /// # }
+        /// ```
+        pub fn $write(values: &[$bits], s: u8, pairs: &[Pair]) -> Result<Vec<u8>, Refusal> {
+            let mut page = vec![0; $measure(values, s, pairs)?];
+            let length = $write_into(values, s, pairs, &mut page)?;
+            page.truncate(length);
+            // The room is a bound for the worst column; a page that is kept should not keep it all.
+            page.shrink_to_fit();
+            Ok(page)
+        }
+
+        #[doc = concat!("Writes the page of these bit patterns into `out`, as [`write", $n, "`] does, and gives its length.")]
+        ///
+        #[doc = concat!("Rows in order: those of [`measure", $n, "`], then 15 if `out` is shorter than the room measured.")]
+        ///
+        /// ```
+        #[doc = concat!("use strahnuk::{write_into", $n, ", Pair};")]
+        /// # fn main() -> Result<(), strahnuk::Refusal> {
+        #[doc = concat!("let column = [7.0_f", $n, ".to_bits(); 2];")]
+        /// let mut out = [0xA5; 100];
+        #[doc = concat!("let length = write_into", $n, "(&column, 10, &[Pair::default()], &mut out)?;")]
+        /// assert_eq!(out[..8], [1, 0, 0, 10, 2, 0, 0, 0]);
+        /// assert!(out[length..].iter().all(|&byte| byte == 0xA5));
+        /// # Ok(())
+        /// # }
+        /// ```
+        pub fn $write_into(values: &[$bits], s: u8, pairs: &[Pair], out: &mut [u8]) -> Result<usize, Refusal> {
+            outcome(foreign::$write(values, s, pairs, out))
+        }
+
+        /// The bit patterns of a page. The kind does not stand in the page: it is the caller's to know. Any bytes will do: no more than
+        /// 16,384 values are ever allocated.
+        ///
+        /// Rows in order: 1 to 6; 7 for the offsets; then each vector in turn 8, 7 for its metadata, 9 to 12, 7 for its data, 13; then 14.
+        ///
+        /// ```
+        #[doc = concat!("use strahnuk::{read", $n, ", write", $n, ", Pair, Row};")]
+        /// # fn main() -> Result<(), strahnuk::Refusal> {
+        #[doc = concat!("let column = [(-0.0_f", $n, ").to_bits(), 1.5_f", $n, ".to_bits()];")]
+        #[doc = concat!("let page = write", $n, "(&column, 10, &[Pair { exponent: 1, factor: 0 }])?;")]
+        #[doc = concat!("assert_eq!(read", $n, "(&page)?, column);")]
+        #[doc = concat!("assert_eq!(read", $n, "(&page[..7]).unwrap_err().row, Row::FewBytes);")]
+        /// # Ok(())
+        /// # }
+        /// ```
+        pub fn $read(page: &[u8]) -> Result<Vec<$bits>, Refusal> {
+            let mut values = vec![0; values_to_lend(page)];
+            let count = $read_into(page, &mut values)?;
+            values.truncate(count);
+            Ok(values)
+        }
+
+        #[doc = concat!("Reads the bit patterns of a page into `out`, as [`read", $n, "`] does, and gives their count.")]
+        ///
+        #[doc = concat!("Rows in order: those of [`read", $n, "`], then 15 if `out` is shorter than the count of values.")]
+        ///
+        /// ```
+        #[doc = concat!("use strahnuk::{read_into", $n, ", write", $n, ", Pair, Row};")]
+        /// # fn main() -> Result<(), strahnuk::Refusal> {
+        #[doc = concat!("let column = [7.0_f", $n, ".to_bits(); 2];")]
+        #[doc = concat!("let page = write", $n, "(&column, 10, &[Pair::default()])?;")]
+        /// let mut out = [0; 3];
+        #[doc = concat!("assert_eq!(read_into", $n, "(&page, &mut out)?, 2);")]
+        /// assert_eq!(out, [column[0], column[1], 0]);
+        #[doc = concat!("assert_eq!(read_into", $n, "(&page, &mut out[..1]).unwrap_err().row, Row::OutputTooShort);")]
+        /// # Ok(())
+        /// # }
+        /// ```
+        pub fn $read_into(page: &[u8], out: &mut [$bits]) -> Result<usize, Refusal> {
+            outcome(foreign::$read(page, out))
+        }
+
+        #[doc = concat!("Whether these bytes are a page that [`write", $n, "`] gives for some values and settings; if so, the count")]
+        /// of values.
+        ///
+        #[doc = concat!("Rows in order: those of [`read", $n, "`], then 20 to 24 of the first vector at fault, in it the lowest row,")]
+        /// in that the first position.
+        ///
+        /// ```
+        #[doc = concat!("use strahnuk::{examine", $n, ", write", $n, ", Pair, Row};")]
+        /// # fn main() -> Result<(), strahnuk::Refusal> {
+        #[doc = concat!("let column = [(-1.0_f", $n, ").to_bits(), 1.0_f", $n, ".to_bits()];")]
+        #[doc = concat!("let mut page = write", $n, "(&column, 10, &[Pair::default()])?;")]
+        #[doc = concat!("assert_eq!(examine", $n, "(&page)?, 2);")]
+        ///
+        /// // Two fields of two bits: the upper half of the last byte is unused, and a bit set there changes no value.
+        /// *page.last_mut().unwrap() |= 0x10;
+        #[doc = concat!("assert_eq!(examine", $n, "(&page).unwrap_err().row, Row::UnusedBit);")]
+        /// # Ok(())
+        /// # }
+        /// ```
+        pub fn $examine(page: &[u8]) -> Result<usize, Refusal> {
+            outcome(foreign::$examine(page))
+        }
+
+        #[doc = concat!("[`write", $n, "`] for floats: their bits are written as they are.")]
+        ///
+        /// ```
+        #[doc = concat!("use strahnuk::{read_f", $n, ", write_f", $n, ", Pair};")]
+        /// # fn main() -> Result<(), strahnuk::Refusal> {
+        #[doc = concat!("let page = write_f", $n, "(&[1.5, -0.0], 10, &[Pair { exponent: 1, factor: 0 }])?;")]
+        #[doc = concat!("let back = read_f", $n, "(&page)?;")]
+        /// assert_eq!(back, [1.5, 0.0]);
+        /// assert!(back[1].is_sign_negative());
+        /// # Ok(())
+        /// # }
+        /// ```
+        pub fn $write_floats(values: &[$float], s: u8, pairs: &[Pair]) -> Result<Vec<u8>, Refusal> {
+            let bits: Vec<$bits> = values.iter().map(|value| value.to_bits()).collect();
+            $write(&bits, s, pairs)
+        }
+
+        #[doc = concat!("[`read", $n, "`] for floats: their bits are those of the page.")]
+        ///
+        /// ```
+        #[doc = concat!("use strahnuk::{read_f", $n, ", write_f", $n, ", Pair};")]
+        /// # fn main() -> Result<(), strahnuk::Refusal> {
+        #[doc = concat!("let page = write_f", $n, "(&[0.1, 0.2], 10, &[Pair { exponent: 1, factor: 0 }])?;")]
+        #[doc = concat!("assert_eq!(read_f", $n, "(&page)?, [0.1, 0.2]);")]
+        /// # Ok(())
+        /// # }
+        /// ```
+        pub fn $read_floats(page: &[u8]) -> Result<Vec<$float>, Refusal> {
+            Ok($read(page)?.into_iter().map($float::from_bits).collect())
+        }
+    };
+}
+
+kind!("32" u32 f32: measure32 write32 write_into32 read32 read_into32 examine32 write_f32 read_f32);
+kind!("64" u64 f64: measure64 write64 write_into64 read64 read_into64 examine64 write_f64 read_f64);
+
+#[cfg(test)]
+mod tests {
+    use super::*;
+
+    #[test]
+    #[should_panic(expected = "the archive answered 17, which is not in the table")]
+    fn a_number_outside_the_table_panics() {
+        let _ = outcome(foreign::Answer { number: 17, vector: 0, place: 0 });
+    }
+
+    #[test]
+    fn what_is_lent_for_any_bytes() {
+        let page = |count: u32| [&[1, 0, 0, 10], &count.to_le_bytes()[..], &[0]].concat();
+        assert_eq!(values_to_lend(&[]), 0);
+        assert_eq!(values_to_lend(&page(5)[..7]), 0);
+        assert_eq!(values_to_lend(&page(5)[..8]), 5);
+        assert_eq!(values_to_lend(&page(16_384)), 16_384);
+        assert_eq!(values_to_lend(&page(16_385)), 16_384);
+        assert_eq!(values_to_lend(&page(u32::MAX)), 16_384);
+    }
+}
