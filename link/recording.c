@@ -6,7 +6,7 @@
  * The Rust program rust/strahnuk/examples/recording.rs tells the same story in the same words; link/run compares the two.
  */
 #define _GNU_SOURCE /* feenableexcept */
-#include "../include/strahnuk.h"
+#include "strahnuk.h"
 
 #include <fenv.h>
 #include <stdio.h>
