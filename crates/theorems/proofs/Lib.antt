@@ -13,3 +13,4 @@ pub mod Done
 pub mod Examples
 pub mod Demands
 pub mod InTurn
+pub mod Longer
