@@ -88,9 +88,10 @@ loop-holds c =
     let a = c .before .before .before .before .before .before .args in
     let ok = c .before .before .before .before .before .before .pre in
     let many = c .before .before .vectors-in .ensures .0 in
-    let size = c .before .before .before .size-of .ensures .0 ∙ ap (λ (x : ℕ). 2 ^ x) (c .before .before .before .before .s-of .ensures) in
-    (omega (arith, page-fine (formatOf (a .kind)) (now (a .page)) ok .0 .offsets, many),
-    vectors-passed-start (formatOf (a .kind)) (now (a .page)) (c .before .before .before .size-of .result) (c .before .before .vectors-in .result) (c .before .count-of .result) size many (c .before .count-of .ensures .0) ok)
+    let size = c .before .before .before .size-of .ensures .0 ∙ ap (λ (x : ℕ). 2 ^ x) (c .before .before .before .before .s-of .ensures) in (
+      omega (arith, page-fine (formatOf (a .kind)) (now (a .page)) ok .0 .offsets, many),
+      vectors-passed-start (formatOf (a .kind)) (now (a .page)) (c .before .before .before .size-of .result) (c .before .before .vectors-in .result) (c .before .count-of .result) size many (c .before .count-of .ensures .0) ok,
+    )
 
 add-from : tie.Need-add-from Inv-loop μ-loop
 add-from c = search needs
