@@ -1,8 +1,8 @@
 // The arrays that files are read into and made from. Each comes from a function, so that a proof that cuts one knows its length alone, and
 // not its zeros.
 
-// A byte more than the longest page has. A longer file can't be a page, and its first bytes decide which row says so: the layout ends among
-// them, so 14 does, if no row before it.
+// A byte more than the longest page has. The first bytes of a longer file get the answer that all of it would get (`tool-reads-enough` and
+// its neighbours in theorems/proofs/Longer).
 pub fn page_file() -> [u8; 329737] {
     [0; 329737]
 }
