@@ -9,54 +9,54 @@ ghost use Rattle.rules.specs.Calls.{Measured, Written, Read, Examined};
 pub extern "C" fn alp_measure32(values: &[u32], s: u8, pairs: &[u8]) -> Answer
     ensures { λ r. ⌜ Measured binary32 (now (values .entry)) s (now (pairs .entry)) r ⌝ }
 {
-    page::write::measure32(values, s, pairs)
+    writer::measure32(values, s, pairs)
 }
 
 #[no_mangle]
 pub extern "C" fn alp_measure64(values: &[u64], s: u8, pairs: &[u8]) -> Answer
     ensures { λ r. ⌜ Measured binary64 (now (values .entry)) s (now (pairs .entry)) r ⌝ }
 {
-    page::write::measure64(values, s, pairs)
+    writer::measure64(values, s, pairs)
 }
 
 #[no_mangle]
 pub extern "C" fn alp_write32(values: &[u32], s: u8, pairs: &[u8], out: &mut [u8]) -> Answer
     ensures { λ r. ⌜ Written binary32 (now (values .entry)) s (now (pairs .entry)) (now (out .entry)) r (now (out .exit)) ⌝ }
 {
-    page::write::write32(values, s, pairs, out)
+    writer::write32(values, s, pairs, out)
 }
 
 #[no_mangle]
 pub extern "C" fn alp_write64(values: &[u64], s: u8, pairs: &[u8], out: &mut [u8]) -> Answer
     ensures { λ r. ⌜ Written binary64 (now (values .entry)) s (now (pairs .entry)) (now (out .entry)) r (now (out .exit)) ⌝ }
 {
-    page::write::write64(values, s, pairs, out)
+    writer::write64(values, s, pairs, out)
 }
 
 #[no_mangle]
 pub extern "C" fn alp_read32(page: &[u8], out: &mut [u32]) -> Answer
     ensures { λ r. ⌜ Read binary32 (now (page .entry)) (now (out .entry)) r (now (out .exit)) ⌝ }
 {
-    page::read::read32(page, out)
+    reader::read32(page, out)
 }
 
 #[no_mangle]
 pub extern "C" fn alp_read64(page: &[u8], out: &mut [u64]) -> Answer
     ensures { λ r. ⌜ Read binary64 (now (page .entry)) (now (out .entry)) r (now (out .exit)) ⌝ }
 {
-    page::read::read64(page, out)
+    reader::read64(page, out)
 }
 
 #[no_mangle]
 pub extern "C" fn alp_examine32(page: &[u8]) -> Answer
     ensures { λ r. ⌜ Examined binary32 (now (page .entry)) r ⌝ }
 {
-    page::examine::examine32(page)
+    examiner::examine32(page)
 }
 
 #[no_mangle]
 pub extern "C" fn alp_examine64(page: &[u8]) -> Answer
     ensures { λ r. ⌜ Examined binary64 (now (page .entry)) r ⌝ }
 {
-    page::examine::examine64(page)
+    examiner::examine64(page)
 }

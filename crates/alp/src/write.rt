@@ -23,12 +23,12 @@ use columns::words32;
 use columns::words64;
 use files::load;
 use files::save;
-use page::write::write32;
-use page::write::write64;
 use rules::Answer;
 use sentences::done;
 use sentences::error;
 use sentences::refusal;
+use writer::write32;
+use writer::write64;
 ghost use Prim.Native.Nat.{_*_, _≤_};
 ghost use lib.ListN.{length};
 

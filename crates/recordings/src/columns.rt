@@ -4,15 +4,15 @@ use crate::show::end;
 use crate::show::line;
 use crate::show::number;
 use crate::show::text;
-use page::examine::examine32;
-use page::examine::examine64;
-use page::read::read32;
-use page::read::read64;
-use page::write::measure32;
-use page::write::measure64;
-use page::write::write32;
-use page::write::write64;
+use examiner::examine32;
+use examiner::examine64;
+use reader::read32;
+use reader::read64;
 use rules::Answer;
+use writer::measure32;
+use writer::measure64;
+use writer::write32;
+use writer::write64;
 
 const PATTERNS32: [u32; 8] = [
     0x3F800000,

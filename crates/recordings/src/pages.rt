@@ -3,10 +3,10 @@ use crate::show::end;
 use crate::show::line;
 use crate::show::values32;
 use crate::show::values64;
-use page::examine::examine32;
-use page::examine::examine64;
-use page::read::read32;
-use page::read::read64;
+use examiner::examine32;
+use examiner::examine64;
+use reader::read32;
+use reader::read64;
 
 pub fn both32(name: &[u8], page: &[u8]) {
     let mut out: [u32; 16] = [0xEEEE_EEEE; 16];

@@ -4,8 +4,8 @@ use crate::pages::both64;
 use crate::show::bytes;
 use crate::show::end;
 use crate::show::line;
-use page::write::write32;
-use page::write::write64;
+use writer::write32;
+use writer::write64;
 
 fn round32(name: &[u8], s: u8, e: u8, f: u8, values: &[u32]) {
     let pairs: [u8; 2] = [e, f];

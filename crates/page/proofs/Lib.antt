@@ -1,3 +1,0 @@
--- What the proofs of several functions share.
-pub mod WriterRows
-pub mod WriterPage

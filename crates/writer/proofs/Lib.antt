@@ -1,0 +1,3 @@
+-- What the proofs of several functions share.
+pub mod Rows
+pub mod Pages
