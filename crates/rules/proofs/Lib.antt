@@ -9,4 +9,5 @@ pub mod Reading
 pub mod Encoded
 pub mod Settings
 pub mod Decoded
+pub mod ReadingVector
 pub mod Powers

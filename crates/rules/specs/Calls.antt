@@ -10,6 +10,7 @@ use lib.Ieee.{Format}
 use Rattle.rules.specs.Verdict.{Verdict, fine, refuse, verdict, done-with, refusal, answer, after}
 use Rattle.rules.specs.Write.{settingsRows, bound, writeOf}
 use Rattle.rules.specs.Read.{readOf}
+use Rattle.rules.specs.ReadVector.{readVectorOf}
 use Rattle.rules.specs.Examine.{examineOf}
 use Rattle.rules.specs.declared.Answer.{Answer}
 
@@ -33,6 +34,11 @@ pub record Read (fmt : Format) (page out : List ℕ) (r : Answer) (end : List �
   pub answer-is : r ≡ answer (readOf fmt (length out) page)
   pub output-is : end ≡ after (readOf fmt (length out) page) out
 
+-- of vector `number` alone
+pub record ReadVector (fmt : Format) (page : List ℕ) (number : ℕ) (out : List ℕ) (r : Answer) (end : List ℕ) : Type 0 where
+  pub answer-is : r ≡ answer (readVectorOf fmt number (length out) page)
+  pub output-is : end ≡ after (readVectorOf fmt number (length out) page) out
+
 pub record Examined (fmt : Format) (page : List ℕ) (r : Answer) : Type 0 where
   pub answer-is : r ≡ answer (examineOf fmt page)
 
@@ -46,6 +52,10 @@ given-by-writer = 5 ∷ 6 ∷ 9 ∷ 10 ∷ 15 ∷ 16 ∷ []
 
 abbrev pub given-by-reader : List ℕ
 given-by-reader = 1 ∷ 2 ∷ 3 ∷ 4 ∷ 5 ∷ 6 ∷ 7 ∷ 8 ∷ 9 ∷ 10 ∷ 11 ∷ 12 ∷ 13 ∷ 14 ∷ 15 ∷ []
+
+-- 14 is not among them: what lies behind the last vector is row 8 here
+abbrev pub given-by-vector-reader : List ℕ
+given-by-vector-reader = 1 ∷ 2 ∷ 3 ∷ 4 ∷ 5 ∷ 6 ∷ 7 ∷ 8 ∷ 9 ∷ 10 ∷ 11 ∷ 12 ∷ 13 ∷ 15 ∷ 30 ∷ []
 
 abbrev pub given-by-examiner : List ℕ
 given-by-examiner = 1 ∷ 2 ∷ 3 ∷ 4 ∷ 5 ∷ 6 ∷ 7 ∷ 8 ∷ 9 ∷ 10 ∷ 11 ∷ 12 ∷ 13 ∷ 14 ∷ 20 ∷ 21 ∷ 22 ∷ 23 ∷ 24 ∷ []

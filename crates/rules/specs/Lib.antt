@@ -5,6 +5,7 @@ pub mod Vector
 pub mod Page
 pub mod Verdict
 pub mod Read
+pub mod ReadVector
 pub mod Examine
 pub mod Write
 pub mod Calls
