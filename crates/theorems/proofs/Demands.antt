@@ -6,7 +6,7 @@ use mathlib.Core.Bool.{Bool, true, false, not, cond}
 use mathlib.Core.Option.{none, some}
 use Prim.Native.Nat.{ℕ, _+_, _*_, _^_, _<_, _≤_}
 use mathlib.Core.List.{List, [], _∷_}
-use lib.ListN.{length, getD, take, replicate}
+use lib.ListN.{length, getD, take, drop, replicate}
 use lib.Dec.{T}
 use lib.IntN.{ℤ, natAbs}
 use lib.Signed.{mag, nonNeg}
@@ -20,12 +20,13 @@ use Rattle.rules.specs.Kind.{word, maxExponent, Bytes, Values}
 use Rattle.rules.specs.Decimal.{Pair, power, negPower, scaled, signed, whole, back, exception}
 use Rattle.rules.specs.Floats.{NearestEven, RoundedOnce, NearestToInverse, AsNear, broughtBack}
 use Rattle.rules.specs.Vector.{Raw, tries, filled, fieldsOf, widthOf, encoded, fields, stored}
-use Rattle.rules.specs.Page.{vectors, pageOf, countOf, bodyOf, metaAt}
+use Rattle.rules.specs.Page.{vectors, pageOf, sOf, countOf, vectorsOf, bodyOf, metaAt}
 use Rattle.rules.specs.Verdict.{Point, fine, verdict, ordered, Passes, FirstTrue, done, done-with, refusal, Result, answer, after}
 use Rattle.rules.specs.Read.{readRows, valuesOf, readOf}
+use Rattle.rules.specs.ReadVector.{valuesIn, readVectorRows, vectorValues, readVectorOf}
 use Rattle.rules.specs.Examine.{unusedSet, examineRows, examineOf}
 use Rattle.rules.specs.Write.{pairsOf, Allowed, Inside, settingsRows, bound, writeRows, writeOf}
-use Rattle.rules.specs.Calls.{measureOf, Measured, Written, Read, Examined, among, given-by-measuring, given-by-writer, given-by-reader, given-by-examiner}
+use Rattle.rules.specs.Calls.{measureOf, Measured, Written, Read, ReadVector, Examined, among, given-by-measuring, given-by-writer, given-by-reader, given-by-vector-reader, given-by-examiner}
 use Rattle.rules.specs.Demands.{Answers, Leaves, Examines}
 use Rattle.rules.specs.declared.Answer.{Answer}
 use Rattle.rules.proofs.Order.{width-holds, width-fewest}
@@ -33,10 +34,11 @@ use Rattle.rules.proofs.Settings.{settings-pass, settings-fine}
 use Rattle.rules.proofs.Powers as Powers
 use native.Mathlib.Omega.{arith}
 use Rattle.theorems.proofs.Called.{answers, leaves, measuring-gives, place-when-done}
-use Rattle.theorems.proofs.Examples.{nothing, nothing-written, nothing-read, nothing-accepted, no-bytes-refused, zeroPage, roomy, zero-written, zero-read, zero-lists-none}
-use Rattle.theorems.proofs.GivenBy.{measuring-numbered, writer-numbered, reader-numbered, examiner-numbered}
+use Rattle.theorems.proofs.Examples.{nothing, nothing-written, nothing-read, nothing-accepted, no-bytes-refused, zeroPage, roomy, zero-written, zero-read, zero-vector-read, zero-lists-none}
+use Rattle.theorems.proofs.GivenBy.{measuring-numbered, writer-numbered, reader-numbered, vector-reader-numbered, examiner-numbered}
 use Rattle.theorems.proofs.RoundTrip.{written-length, round-trip}
-use Rattle.theorems.proofs.Done.{examined-count, writer-done, page-when-done, writer-room, reader-room, read-done, read-values-done, examined-reads}
+use Rattle.theorems.proofs.Done.{examined-count, writer-done, page-when-done, writer-room, reader-room, read-done, read-values-done, vector-done, vector-values-done, vector-reader-room, examined-reads}
+use Rattle.theorems.proofs.Stretch.{vector-is-stretch}
 use Rattle.theorems.proofs.Listing.{listed-exactly}
 use Rattle.theorems.proofs.Bits.{encoded-bit, fields-bit, unused-exactly}
 use Rattle.theorems.proofs.OnePage.{accepted-is-page, page-is-accepted, one-page}
@@ -54,6 +56,10 @@ pub reader-answers : (fmt : Format) (room : ℕ) (bs : List ℕ) → Answers (re
 unfolding readOf
 reader-answers fmt room bs = answers (readRows fmt room bs) given-by-reader (valuesOf fmt bs) (reader-numbered fmt room bs)
 
+pub vector-reader-answers : (fmt : Format) (v room : ℕ) (bs : List ℕ) → Answers (readVectorOf fmt v room bs) (readVectorRows fmt v room bs) given-by-vector-reader (vectorValues fmt v bs)
+unfolding readVectorOf
+vector-reader-answers fmt v room bs = answers (readVectorRows fmt v room bs) given-by-vector-reader (vectorValues fmt v bs) (vector-reader-numbered fmt v room bs)
+
 pub examiner-answers : (fmt : Format) (bs : List ℕ) → Answers (examineOf fmt bs) (examineRows fmt bs) given-by-examiner (valuesOf fmt bs)
 unfolding examineOf
 examiner-answers fmt bs = answers (examineRows fmt bs) given-by-examiner (valuesOf fmt bs) (examiner-numbered fmt bs)
@@ -64,12 +70,15 @@ pub measuring-answers : (fmt : Format) (s : ℕ) (pairs vs : List ℕ)
     ⊎ (Each Passes (ordered (settingsRows fmt s pairs vs)) × (measureOf fmt s pairs vs ≡ done-with (bound fmt s (length vs))))
 measuring-answers fmt s pairs vs = measuring-gives fmt s pairs vs (measuring-numbered fmt s pairs vs)
 
--- what writer and reader leave of the lent output
+-- what writer and readers leave of the lent output
 pub writer-leaves : (fmt : Format) (s : ℕ) (pairs vs out : List ℕ) → Values fmt vs → Leaves (writeOf fmt s pairs vs (length out)) out
 writer-leaves fmt s pairs vs out ok = leaves (writeOf fmt s pairs vs (length out)) out (writer-room fmt s pairs vs ok (length out))
 
 pub reader-leaves : (fmt : Format) (bs out : List ℕ) → Leaves (readOf fmt (length out) bs) out
 reader-leaves fmt bs out = leaves (readOf fmt (length out) bs) out (reader-room fmt bs (length out))
+
+pub vector-reader-leaves : (fmt : Format) (v : ℕ) (bs out : List ℕ) → Leaves (readVectorOf fmt v (length out) bs) out
+vector-reader-leaves fmt v bs out = leaves (readVectorOf fmt v (length out) bs) out (vector-reader-room fmt v bs (length out))
 
 -- ==== The writer is done exactly where the settings are inside the limits and there is the room; then it gives the page
 
@@ -101,6 +110,18 @@ read-count fmt room bs vs e = read-done fmt room bs vs e
 
 pub read-width : (fmt : Format) (room : ℕ) (bs vs : List ℕ) → Bytes bs → readOf fmt room bs ≡ done vs → Values fmt vs
 read-width fmt room bs vs h e = read-values-done fmt room bs vs e h
+
+-- one vector by its number, of any bytes: as many values as that vector holds, each of the kind's width
+pub read-vector-count : (fmt : Format) (v room : ℕ) (bs vs : List ℕ) → readVectorOf fmt v room bs ≡ done vs → length vs ≡ valuesIn bs v
+read-vector-count fmt v room bs vs e = vector-done fmt v room bs vs e
+
+pub read-vector-width : (fmt : Format) (v room : ℕ) (bs vs : List ℕ) → Bytes bs → readVectorOf fmt v room bs ≡ done vs → Values fmt vs
+read-vector-width fmt v room bs vs h e = vector-values-done fmt v room bs vs e h
+
+-- on any page that the reader accepts, each of its vectors is given alone, given room: exactly its stretch of the whole answer
+pub one-vector-is-its-stretch : (fmt : Format) (room : ℕ) (bs vs : List ℕ) → readOf fmt room bs ≡ done vs → (v : ℕ) → v < vectorsOf bs → (lent : ℕ) → valuesIn bs v ≤ lent
+    → readVectorOf fmt v lent bs ≡ done (take (2 ^ sOf bs) (drop (v * 2 ^ sOf bs) vs))
+one-vector-is-its-stretch fmt room bs vs e v there lent fits = vector-is-stretch fmt room bs vs e v there lent fits
 
 -- a position of a written vector has its value's own bits stored where the value is an exception, and nothing anywhere else
 pub exceptions-exactly : (fmt : Format) (p : Pair) (vs : List ℕ) (i : ℕ) → i < length vs
@@ -188,6 +209,10 @@ written-pinned fmt values s pairs out r r′ end end′ a b = (a .answer-is ∙ 
 pub read-pinned : (fmt : Format) (page out : List ℕ) (r r′ : Answer) (end end′ : List ℕ) → Read fmt page out r end → Read fmt page out r′ end′ → (r ≡ r′) × (end ≡ end′)
 read-pinned fmt page out r r′ end end′ a b = (a .answer-is ∙ sym (b .answer-is), a .output-is ∙ sym (b .output-is))
 
+pub read-vector-pinned : (fmt : Format) (page : List ℕ) (v : ℕ) (out : List ℕ) (r r′ : Answer) (end end′ : List ℕ)
+    → ReadVector fmt page v out r end → ReadVector fmt page v out r′ end′ → (r ≡ r′) × (end ≡ end′)
+read-vector-pinned fmt page v out r r′ end end′ a b = (a .answer-is ∙ sym (b .answer-is), a .output-is ∙ sym (b .output-is))
+
 pub examined-pinned : (fmt : Format) (page : List ℕ) (r r′ : Answer) → Examined fmt page r → Examined fmt page r′ → r ≡ r′
 examined-pinned fmt page r r′ a b = a .answer-is ∙ sym (b .answer-is)
 
@@ -200,6 +225,9 @@ Writer = List ℕ → ℕ → List ℕ → List ℕ → Answer × List ℕ
 abbrev pub Reader : Type 0
 Reader = List ℕ → List ℕ → Answer × List ℕ
 
+abbrev pub VectorReader : Type 0
+VectorReader = List ℕ → ℕ → List ℕ → Answer × List ℕ
+
 abbrev pub Examiner : Type 0
 Examiner = List ℕ → Answer
 
@@ -209,6 +237,9 @@ module _ (fmt : Format) where
 
   abbrev pub GoodReader : Reader → Type 0
   GoodReader R = (page out : List ℕ) → Read fmt page out (R page out .0) (R page out .1)
+
+  abbrev pub GoodVectorReader : VectorReader → Type 0
+  GoodVectorReader R = (page : List ℕ) (v : ℕ) (out : List ℕ) → ReadVector fmt page v out (R page v out .0) (R page v out .1)
 
   abbrev pub GoodExaminer : Examiner → Type 0
   GoodExaminer X = (page : List ℕ) → Examined fmt page (X page)
@@ -220,6 +251,10 @@ module _ (fmt : Format) where
 
   pub not-a-reader-that-refuses-everything : (R : Reader) → GoodReader R → ((page out : List ℕ) → R page out .0 .number ≡ 0 → ⊥) → ⊥
   not-a-reader-that-refuses-everything R good bad = bad nothing [] (ap (λ (r : Answer). r .number) (good nothing [] .answer-is ∙ ap answer (nothing-read fmt)))
+
+  pub not-a-vector-reader-that-refuses-everything : (R : VectorReader) → GoodVectorReader R → ((page : List ℕ) (v : ℕ) (out : List ℕ) → R page v out .0 .number ≡ 0 → ⊥) → ⊥
+  not-a-vector-reader-that-refuses-everything R good bad =
+      bad (zeroPage fmt) 0 (1 ∷ []) (ap (λ (r : Answer). r .number) (good (zeroPage fmt) 0 (1 ∷ []) .answer-is ∙ ap answer (zero-vector-read fmt)))
 
   -- an examiner that accepts everything, or nothing
   pub not-an-examiner-that-accepts-everything : (X : Examiner) → GoodExaminer X → ((page : List ℕ) → X page .number ≡ 0) → ⊥
@@ -249,13 +284,18 @@ module _ (fmt : Format) where
       let e : _≡_ {A = ℕ} 0 1 = ap length (none-given ∙ sym one-given) in
       omega arith
 
+  one-is-not-zero : _≡_ {A = List ℕ} (0 ∷ []) (1 ∷ []) → ⊥
+  one-is-not-zero e = let o : _≡_ {A = ℕ} 0 1 = ap (λ (l : List ℕ). getD l 0 0) e in omega arith
+
   pub not-a-reader-that-leaves-the-output-alone : (R : Reader) → GoodReader R → ((page out : List ℕ) → R page out .1 ≡ out) → ⊥
   not-a-reader-that-leaves-the-output-alone R good bad =
-      let e : _≡_ {A = List ℕ} (0 ∷ []) (1 ∷ []) = sym (good (zeroPage fmt) (1 ∷ []) .output-is ∙ ap (λ (x : Result). after x (1 ∷ [])) (zero-read fmt)) ∙ bad (zeroPage fmt) (1 ∷ []) in
-      let o : _≡_ {A = ℕ} 0 1 = ap (λ (l : List ℕ). getD l 0 0) e in
-      omega arith
+      one-is-not-zero (sym (good (zeroPage fmt) (1 ∷ []) .output-is ∙ ap (λ (x : Result). after x (1 ∷ [])) (zero-read fmt)) ∙ bad (zeroPage fmt) (1 ∷ []))
 
-  -- a done with an invented count: done's place is the page's length, or the header's count
+  pub not-a-vector-reader-that-leaves-the-output-alone : (R : VectorReader) → GoodVectorReader R → ((page : List ℕ) (v : ℕ) (out : List ℕ) → R page v out .1 ≡ out) → ⊥
+  not-a-vector-reader-that-leaves-the-output-alone R good bad =
+      one-is-not-zero (sym (good (zeroPage fmt) 0 (1 ∷ []) .output-is ∙ ap (λ (x : Result). after x (1 ∷ [])) (zero-vector-read fmt)) ∙ bad (zeroPage fmt) 0 (1 ∷ []))
+
+  -- a done with an invented count: done's place is the page's length, the header's count, or the vector's
   pub writer-counts : (values : List ℕ) (s : ℕ) (pairs out : List ℕ) (r : Answer) (end : List ℕ) → Written fmt values s pairs out r end → r .number ≡ 0
       → r .place ≡ length (pageOf fmt s (pairsOf pairs) values)
   writer-counts values s pairs out r end w e =
@@ -265,6 +305,10 @@ module _ (fmt : Format) where
   pub reader-counts : (page out : List ℕ) (r : Answer) (end : List ℕ) → Read fmt page out r end → r .number ≡ 0 → r .place ≡ countOf page
   reader-counts page out r end w e =
       place-when-done (readOf fmt (length out) page) given-by-reader tt (reader-answers fmt (length out) page .of-the-table) r (w .answer-is) e (read-done fmt (length out) page)
+
+  pub vector-reader-counts : (page : List ℕ) (v : ℕ) (out : List ℕ) (r : Answer) (end : List ℕ) → ReadVector fmt page v out r end → r .number ≡ 0 → r .place ≡ valuesIn page v
+  vector-reader-counts page v out r end w e =
+      place-when-done (readVectorOf fmt v (length out) page) given-by-vector-reader tt (vector-reader-answers fmt v (length out) page .of-the-table) r (w .answer-is) e (vector-done fmt v (length out) page)
 
   pub examiner-counts : (page : List ℕ) (r : Answer) → Examined fmt page r → r .number ≡ 0 → r .place ≡ countOf page
   examiner-counts page r w e = place-when-done (examineOf fmt page) given-by-examiner tt (examiner-answers fmt page .of-the-table) r (w .answer-is) e (examined-count fmt page)

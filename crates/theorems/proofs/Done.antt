@@ -1,21 +1,28 @@
--- When writer, reader and examiner are done, and what that shows. Assumes nothing.
+-- When writer, reader, the reading of one vector and the examiner are done, and what that shows. Assumes nothing.
 use mathlib.Core.Path.{_≡_, sym, ap, _∙_, subst}
 use mathlib.Core.Logic.{_↔_}
-use Prim.Native.Nat.{ℕ, _*_, _≤_}
-use native.Mathlib.Nat.{le-trans, le-of-eq}
+use Prim.Native.Nat.{ℕ, _+_, _*_, _<_, _≤_}
+use native.Mathlib.Nat.{le-trans, le-of-eq, mul-add}
+use native.Mathlib.Omega.{arith}
 use mathlib.Core.List.{List}
-use lib.ListN.{length}
+use lib.ListN.{length, drop, length-drop}
 use lib.Ieee.{Format}
 use borrow.Author.Tests.{ltb-false, le-ltb}
-use Rattle.rules.specs.Kind.{Bytes, Values}
-use Rattle.rules.specs.Page.{vectors, pageOf, countOf, rawsOf}
+use Rattle.digits.specs.Digits.{packedSize}
+use Rattle.digits.proofs.Lists.{each-drop}
+use Rattle.digits.proofs.Rows.{numbers-lt}
+use Rattle.rules.specs.Kind.{Bytes, Values, metaBytes, wordBytes}
+use Rattle.rules.specs.Page.{vectors, pageOf, countOf, metaAt, rawFrom, rawsOf}
 use Rattle.rules.specs.Verdict.{fine, verdict, row, the-page, _below_, done}
 use Rattle.rules.specs.Read.{pageRows, valuesOf, readRows, readOf}
+use Rattle.rules.specs.ReadVector.{valuesIn, spanOf, partFrom, readVectorRows, vectorValues, readVectorOf}
 use Rattle.rules.specs.Examine.{allRulesRows, examineRows, examineOf}
 use Rattle.rules.specs.Write.{pairsOf, Inside, settingsRows, bound, writeRows, writeOf}
 use Rattle.rules.proofs.Rows.{row-fine, first-fine, settle-done}
+use Rattle.rules.proofs.Encoded.{power-word}
 use Rattle.rules.proofs.Settings.{settings-pass, settings-fine}
-use Rattle.rules.proofs.Decoded.{values-count}
+use Rattle.rules.proofs.Decoded.{values-count, decoded-values}
+use Rattle.rules.proofs.ReadingVector.{chosen-fine, vector-values-count}
 use Rattle.theorems.proofs.RoundTrip.{written-length}
 use Rattle.theorems.proofs.Accepted.{read-values}
 
@@ -59,11 +66,11 @@ writer-room fmt s pairs vs ok room bs e =
 -- ---- the reader
 
 module _ (fmt : Format) (room : ℕ) (bs vs : List ℕ) (e : readOf fmt room bs ≡ done vs) where
-  settled : (verdict (readRows fmt room bs) ≡ fine) × (valuesOf fmt bs ≡ vs)
+  pub settled : (verdict (readRows fmt room bs) ≡ fine) × (valuesOf fmt bs ≡ vs)
   unfolding readOf
   settled = settle-done (verdict (readRows fmt room bs)) (valuesOf fmt bs) vs e
 
-  halves : (verdict (pageRows fmt bs) ≡ fine) × (verdict (row 15 the-page (room below countOf bs)) ≡ fine)
+  pub halves : (verdict (pageRows fmt bs) ≡ fine) × (verdict (row 15 the-page (room below countOf bs)) ≡ fine)
   unfolding readRows
   halves = first-fine (verdict (pageRows fmt bs)) (verdict (row 15 the-page (room below countOf bs))) (settled .0)
 
@@ -78,6 +85,36 @@ module _ (fmt : Format) (room : ℕ) (bs vs : List ℕ) (e : readOf fmt room bs 
 
 pub reader-room : (fmt : Format) (bs : List ℕ) (room : ℕ) (vs : List ℕ) → readOf fmt room bs ≡ done vs → length vs ≤ room
 reader-room fmt bs room vs e = fits-room fmt room bs vs e
+
+-- ---- one vector
+
+module _ (fmt : Format) (v room : ℕ) (bs vs : List ℕ) (e : readVectorOf fmt v room bs ≡ done vs) where
+  given : (verdict (readVectorRows fmt v room bs) ≡ fine) × (vectorValues fmt v bs ≡ vs)
+  unfolding readVectorOf
+  given = settle-done (verdict (readVectorRows fmt v room bs)) (vectorValues fmt v bs) vs e
+
+  pub vector-done : length vs ≡ valuesIn bs v
+  vector-done = ap length (sym (given .1)) ∙ vector-values-count fmt v bs
+
+  -- its exceptions are all there, so each is a word of the kind
+  pub vector-values-done : Bytes bs → Values fmt vs
+  unfolding vectorValues rawFrom
+  vector-values-done h =
+      let part = partFrom bs (spanOf bs v) in
+      let n = valuesIn bs v in
+      let m = metaAt fmt part in
+      let whole = chosen-fine fmt v room bs (given .0) .alone .passes .whole in
+      let bytes : Bytes part = each-drop (λ (b : ℕ). b < 256) (8 + spanOf bs v .from) bs h in
+      let payload = drop (metaBytes fmt) part in
+      let lists = drop (packedSize n (m .width)) payload in
+      let stored = drop (m .listed * 2) lists in
+      let inside : m .listed * wordBytes fmt ≤ length stored =
+      omega (arith, whole, mul-add (m .listed) 2 (wordBytes fmt), length-drop (metaBytes fmt) part, length-drop (packedSize n (m .width)) payload, length-drop (m .listed * 2) lists) in
+      let words = numbers-lt (wordBytes fmt) (m .listed) stored inside (each-drop (λ (b : ℕ). b < 256) (m .listed * 2) lists (each-drop (λ (b : ℕ). b < 256) (packedSize n (m .width)) payload (each-drop (λ (b : ℕ). b < 256) (metaBytes fmt) part bytes))) in
+      subst (Values fmt) (given .1) (decoded-values fmt (rawFrom fmt n m (drop (metaBytes fmt) part)) (rw (power-word fmt) at words))
+
+pub vector-reader-room : (fmt : Format) (v : ℕ) (bs : List ℕ) (room : ℕ) (vs : List ℕ) → readVectorOf fmt v room bs ≡ done vs → length vs ≤ room
+vector-reader-room fmt v bs room vs e = le-trans (le-of-eq (vector-done fmt v room bs vs e)) (chosen-fine fmt v room bs (given fmt v room bs vs e .0) .roomy)
 
 -- ---- the examiner: what it accepts is read
 

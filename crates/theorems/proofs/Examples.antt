@@ -11,6 +11,7 @@ use Rattle.rules.specs.Vector.{allVector}
 use Rattle.rules.specs.Page.{bodyOf, metaAt, allPage}
 use Rattle.rules.specs.Verdict.{the-page, done, refused, after}
 use Rattle.rules.specs.Read.{readOf, allRead}
+use Rattle.rules.specs.ReadVector.{readVectorOf, allReadVector}
 use Rattle.rules.specs.Examine.{examineOf, allExamine}
 use Rattle.rules.specs.Write.{writeOf, allWrite}
 
@@ -56,6 +57,12 @@ pub zero-read : (fmt : Format) → readOf fmt 1 (zeroPage fmt) ≡ done (0 ∷ [
 unfolding allDigits allDecimal allVector allPage allRead
 zero-read binary32 = refl
 zero-read binary64 = refl
+
+-- its only vector, and one that a page of no values has not
+pub zero-vector-read : (fmt : Format) → readVectorOf fmt 0 1 (zeroPage fmt) ≡ done (0 ∷ [])
+unfolding allDigits allDecimal allVector allPage allRead allReadVector
+zero-vector-read binary32 = refl
+zero-vector-read binary64 = refl
 
 -- the count of exceptions in what the writer leaves
 pub zero-lists-none : (fmt : Format) → metaAt fmt (bodyOf (after (done (zeroPage fmt)) roomy)) .listed ≡ 0

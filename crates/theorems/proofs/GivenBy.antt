@@ -13,15 +13,16 @@ use Rattle.rules.specs.Decimal.{Pair}
 use Rattle.rules.specs.Vector.{Raw, wholes, marked}
 use Rattle.rules.specs.Page.{Meta, metaAt, rawsOf, sOf, offsetsOf, bodyOf, vectorSize}
 use Rattle.rules.specs.Read.{headRows, offsetsRow, metaRows, Listed, positionsRows, listRows, Cursor, here, next, start, vectorRows, vectorsRows, pageRows, readRows}
+use Rattle.rules.specs.ReadVector.{numberRows, aloneRows, readVectorRows}
 use Rattle.rules.specs.Examine.{firstRows, rulesRows, allRulesRows, examineRows, strays, needless, unfilled, standInOf}
 use Rattle.rules.specs.Write.{pairsRows, settingsRows, pairsOf, writeRows}
-use Rattle.rules.specs.Calls.{among, given-by-measuring, given-by-writer, given-by-reader, given-by-examiner}
+use Rattle.rules.specs.Calls.{among, given-by-measuring, given-by-writer, given-by-reader, given-by-vector-reader, given-by-examiner}
 use Rattle.theorems.proofs.Ordered.{Numbered}
 
--- ---- the reader's rows 1 to 14, for any list that has these numbers
+-- ---- the reader's rows 1 to 13, then 14, for any list that has these numbers
 
 abbrev layoutRows : List ℕ
-layoutRows = 1 ∷ 2 ∷ 3 ∷ 4 ∷ 5 ∷ 6 ∷ 7 ∷ 8 ∷ 9 ∷ 10 ∷ 11 ∷ 12 ∷ 13 ∷ 14 ∷ []
+layoutRows = 1 ∷ 2 ∷ 3 ∷ 4 ∷ 5 ∷ 6 ∷ 7 ∷ 8 ∷ 9 ∷ 10 ∷ 11 ∷ 12 ∷ 13 ∷ []
 
 -- a number of one list is a number of another that has all of it
 within : (ms ns : List ℕ) → Each (λ (a : ℕ). T (among a ns)) ms → (a : ℕ) → T (among a ms) → T (among a ns)
@@ -38,28 +39,50 @@ module _ (ns : List ℕ) (has : (a : ℕ) → T (among a layoutRows) → T (amon
   positions-numbered v n k [] = tt
   positions-numbered v n k (p ∷ ps) = (has 13 tt, positions-numbered v n (record { index = suc (k .index); low = suc p }) ps)
 
+  list-numbered : (fmt : Format) (v n : ℕ) (m : Meta) (bs : List ℕ) → Numbered ns (listRows fmt v n m bs)
+  unfolding listRows
+  list-numbered fmt v n m bs = positions-numbered v n (record { index = 0; low = 0 }) _
+
+  meta-numbered : (fmt : Format) (v n : ℕ) (m : Meta) (bs : List ℕ) → Numbered ns (metaRows fmt v n m bs)
+  unfolding metaRows
+  meta-numbered fmt v n m bs = (has 7 tt, (has 9 tt, (has 10 tt, (has 11 tt, (has 12 tt, has 7 tt)))))
+
+  head-numbered : (bs : List ℕ) → Numbered ns (headRows bs)
+  unfolding headRows
+  head-numbered bs = (has 1 tt, (has 2 tt, (has 3 tt, (has 4 tt, (has 5 tt, has 6 tt)))))
+
+  offsets-numbered : (bs : List ℕ) → Numbered ns (offsetsRow bs)
+  unfolding offsetsRow
+  offsets-numbered bs = has 7 tt
+
   vector-numbered : (fmt : Format) (size : ℕ) (c : Cursor) (o : ℕ) (m : Meta) (bs : List ℕ) → Numbered ns (vectorRows fmt size c o m bs)
-  unfolding vectorRows metaRows listRows
-  vector-numbered fmt size c o m bs =
-      (has 8 tt, ((has 7 tt, (has 9 tt, (has 10 tt, (has 11 tt, (has 12 tt, has 7 tt))))), positions-numbered (c .vector) (here size c) (record { index = 0; low = 0 }) _))
+  unfolding vectorRows
+  vector-numbered fmt size c o m bs = (has 8 tt, (meta-numbered fmt (c .vector) (here size c) m bs, list-numbered fmt (c .vector) (here size c) m bs))
 
-  vectors-numbered : (fmt : Format) (size : ℕ) (c : Cursor) (os bs : List ℕ) → Numbered ns (vectorsRows fmt size c os bs)
-  unfolding vectorsRows
-  vectors-numbered fmt size c [] bs = has 14 tt
-  vectors-numbered fmt size c (o ∷ os) bs =
-      let m = metaAt fmt bs in
-      (vector-numbered fmt size c o m bs, vectors-numbered fmt size (next fmt size c m) os (drop (vectorSize fmt (here size c) m) bs))
+  module _ (has-14 : T (among 14 ns)) where
+    vectors-numbered : (fmt : Format) (size : ℕ) (c : Cursor) (os bs : List ℕ) → Numbered ns (vectorsRows fmt size c os bs)
+    unfolding vectorsRows
+    vectors-numbered fmt size c [] bs = has-14
+    vectors-numbered fmt size c (o ∷ os) bs =
+        let m = metaAt fmt bs in
+        (vector-numbered fmt size c o m bs, vectors-numbered fmt size (next fmt size c m) os (drop (vectorSize fmt (here size c) m) bs))
 
-  page-numbered : (fmt : Format) (bs : List ℕ) → Numbered ns (pageRows fmt bs)
-  unfolding pageRows headRows offsetsRow
-  page-numbered fmt bs =
-      ((has 1 tt, (has 2 tt, (has 3 tt, (has 4 tt, (has 5 tt, has 6 tt))))), (has 7 tt, vectors-numbered fmt (2 ^ sOf bs) (start bs) (offsetsOf bs) (bodyOf bs)))
+    page-numbered : (fmt : Format) (bs : List ℕ) → Numbered ns (pageRows fmt bs)
+    unfolding pageRows
+    page-numbered fmt bs = (head-numbered bs, (offsets-numbered bs, vectors-numbered fmt (2 ^ sOf bs) (start bs) (offsetsOf bs) (bodyOf bs)))
 
 -- ---- each call
 
 pub reader-numbered : (fmt : Format) (room : ℕ) (bs : List ℕ) → Numbered given-by-reader (readRows fmt room bs)
 unfolding readRows
-reader-numbered fmt room bs = (page-numbered given-by-reader (within layoutRows given-by-reader (tt, (tt, (tt, (tt, (tt, (tt, (tt, (tt, (tt, (tt, (tt, (tt, (tt, (tt, tt))))))))))))))) fmt bs, tt)
+reader-numbered fmt room bs = (page-numbered given-by-reader (within layoutRows given-by-reader (tt, (tt, (tt, (tt, (tt, (tt, (tt, (tt, (tt, (tt, (tt, (tt, (tt, tt)))))))))))))) tt fmt bs, tt)
+
+pub vector-reader-numbered : (fmt : Format) (v room : ℕ) (bs : List ℕ) → Numbered given-by-vector-reader (readVectorRows fmt v room bs)
+unfolding readVectorRows numberRows aloneRows
+vector-reader-numbered fmt v room bs =
+    let ns = given-by-vector-reader in
+    let has = within layoutRows ns (tt, (tt, (tt, (tt, (tt, (tt, (tt, (tt, (tt, (tt, (tt, (tt, (tt, tt))))))))))))) in
+    ((head-numbered ns has bs, (tt, offsets-numbered ns has bs)), ((tt, (meta-numbered ns has fmt v _ _ _, (tt, list-numbered ns has fmt v _ _ _))), tt))
 
 first-numbered : (ns : List ℕ) (a : ℕ) → T (among a ns) → (v : ℕ) (at-fault : ℤ → Option ℕ → Bool) (i : ℕ) (zs : List ℤ) (ms : List (Option ℕ)) → Numbered ns (firstRows a v at-fault i zs ms)
 unfolding firstRows
@@ -82,7 +105,7 @@ all-rules-numbered fmt v (r ∷ rs) = (rules-numbered fmt v r, all-rules-numbere
 
 pub examiner-numbered : (fmt : Format) (bs : List ℕ) → Numbered given-by-examiner (examineRows fmt bs)
 unfolding examineRows
-examiner-numbered fmt bs = (page-numbered given-by-examiner (within layoutRows given-by-examiner (tt, (tt, (tt, (tt, (tt, (tt, (tt, (tt, (tt, (tt, (tt, (tt, (tt, (tt, tt))))))))))))))) fmt bs, all-rules-numbered fmt 0 (rawsOf fmt bs))
+examiner-numbered fmt bs = (page-numbered given-by-examiner (within layoutRows given-by-examiner (tt, (tt, (tt, (tt, (tt, (tt, (tt, (tt, (tt, (tt, (tt, (tt, (tt, tt)))))))))))))) tt fmt bs, all-rules-numbered fmt 0 (rawsOf fmt bs))
 
 pairs-numbered : (ns : List ℕ) → T (among 9 ns) → T (among 10 ns) → (fmt : Format) (v : ℕ) (ps : List Pair) → Numbered ns (pairsRows fmt v ps)
 unfolding pairsRows

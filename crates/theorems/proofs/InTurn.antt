@@ -1,26 +1,28 @@
--- Demand 3 of the calls themselves, one after the other: what is written is accepted, what is accepted is read, and what was read is
--- written again to the same bytes. Each call is known by its record alone, lent its buffers as the last one left them. Assumes nothing.
+-- The calls themselves, one after the other: what is written is accepted, what is accepted is read, what was read is written again to the
+-- same bytes, and each vector of what was read is read alone. Each call is known by its record alone, lent its buffers as the last one left
+-- them. Assumes nothing.
 use mathlib.Core.Path.{_≡_, sym, ap, ap₂, _∙_, subst}
 use mathlib.Core.List.{List}
-use Prim.Native.Nat.{ℕ, _*_, _≤_}
+use Prim.Native.Nat.{ℕ, _*_, _^_, _<_, _≤_}
 use lib.ListN.{length, take, drop}
 use lib.Seq.{take-append-seam}
 use lib.Ieee.{Format}
 use Rattle.digits.specs.Lists.{over}
 use Rattle.rules.specs.Kind.{Bytes, Values}
 use Rattle.rules.specs.Decimal.{Pair}
-use Rattle.rules.specs.Page.{pageOf}
+use Rattle.rules.specs.Page.{pageOf, sOf, vectorsOf}
 use Rattle.rules.specs.Verdict.{Result, done, answer, after, done-with}
 use Rattle.rules.specs.Read.{readOf}
+use Rattle.rules.specs.ReadVector.{valuesIn, readVectorOf}
 use Rattle.rules.specs.Examine.{examineOf}
 use Rattle.rules.specs.Write.{pairsOf, pairBytes, Inside, PageOf, bound, writeOf}
-use Rattle.rules.specs.Calls.{Written, Read, Examined, given-by-writer, given-by-examiner}
+use Rattle.rules.specs.Calls.{Written, Read, ReadVector, Examined, given-by-writer, given-by-reader, given-by-examiner}
 use Rattle.rules.specs.declared.Answer.{Answer}
 use Rattle.rules.proofs.Settings.{pairs-back, length-pairBytes}
 use Rattle.theorems.proofs.Called.{done-when-zero}
 use Rattle.theorems.proofs.Done.{writer-done, page-when-done}
 use Rattle.theorems.proofs.OnePage.{page-is-accepted}
-use Rattle.theorems.proofs.Demands.{writer-answers, examiner-answers, demand-3}
+use Rattle.theorems.proofs.Demands.{writer-answers, reader-answers, examiner-answers, demand-3, one-vector-is-its-stretch}
 
 -- a call that is done has its output in front
 module _ (r : Result) (xs out : List ℕ) (e : r ≡ done xs) (a : Answer) (is : a ≡ answer r) (end : List ℕ) (left : end ≡ after r out) where
@@ -80,3 +82,12 @@ module _ (fmt : Format) where
               let result = writeOf fmt s (pairBytes ps) vs (length free) in
               (answer-is-done result page free given-page w (same .answer-is) left (same .output-is), front-is result page free given-page w (same .answer-is) left (same .output-is)),
         )
+
+  -- read a page, then one of its vectors: that vector's stretch of what was read
+  pub read-then-read-vector : (page out : List ℕ) (r : Answer) (end : List ℕ) (v : ℕ) (free : List ℕ) (q : Answer) (left : List ℕ) → Read fmt page out r end → r .number ≡ 0
+      → ReadVector fmt page v free q left → v < vectorsOf page → valuesIn page v ≤ length free → take (q .place) left ≡ take (2 ^ sOf page) (drop (v * 2 ^ sOf page) (take (r .place) end))
+  read-then-read-vector page out r end v free q left read zero picked there fits =
+      let d = done-when-zero (readOf fmt (length out) page) given-by-reader tt (reader-answers fmt (length out) page .of-the-table) r (read .answer-is) zero in
+      let whole : take (r .place) end ≡ d .0 = front-is (readOf fmt (length out) page) (d .0) out (d .1) r (read .answer-is) end (read .output-is) in
+      front-is (readVectorOf fmt v (length free) page) _ free (one-vector-is-its-stretch fmt (length out) page (d .0) (d .1) v there (length free) fits) q (picked .answer-is) left (picked .output-is)
+      ∙ ap (λ (l : List ℕ). take (2 ^ sOf page) (drop (v * 2 ^ sOf page) l)) (sym whole)

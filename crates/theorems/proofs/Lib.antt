@@ -10,6 +10,7 @@ pub mod GivenBy
 pub mod Listing
 pub mod Bits
 pub mod Done
+pub mod Stretch
 pub mod Examples
 pub mod Demands
 pub mod InTurn
