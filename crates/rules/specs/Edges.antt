@@ -7,7 +7,7 @@ use mathlib.Core.List.{List, [], _∷_, _++_}
 use lib.ListN.{replicate}
 use lib.Ieee.{binary32, binary64}
 use Rattle.rules.specs.Verdict.{the-page, in-vector, in-vector-at, done, refused, done-with, refusal}
-use Rattle.rules.specs.Recordings.{hex, Line, writes, measures, reads, examines, written, flawed, faulty, allHold, allRules}
+use Rattle.rules.specs.Recordings.{hex, Line, writes, measures, reads, reads-vector, examines, written, flawed, faulty, allHold, allRules}
 
 -- ---- parts that many pages share, so that a line shows what is its own
 
@@ -538,11 +538,102 @@ settings =
     ∷ measures binary64 3 (18 ∷ 0 ∷ 0 ∷ 0 ∷ 18 ∷ 18 ∷ []) (replicate 24 0x401C000000000000) (done-with 491)
     ∷ []
 
+-- ---- one vector by its number
+
+-- a 32-bit page at s 3 up to its vectors: 17 values, so three vectors, and these offsets; sound are 12, 21, 30
+abbrev pub three : ℕ → List ℕ
+three offsets = hex 8 0x01_00_00_03_11_00_00_00 ++ hex 12 offsets
+
+-- a vector whose values are all 7.0, 8.0 or 9.0: nine bytes, however many values it holds
+abbrev pub all7 : List ℕ
+all7 = hex 4 0x00_00_00_00 ++ hex 5 0x07_00_00_00_00
+
+abbrev pub all8 : List ℕ
+all8 = hex 4 0x00_00_00_00 ++ hex 5 0x08_00_00_00_00
+
+abbrev pub all9 : List ℕ
+all9 = hex 4 0x00_00_00_00 ++ hex 5 0x09_00_00_00_00
+
+unfoldable pub alone : List Line
+alone =
+    -- the first, the middle and the last of three
+    reads-vector binary32 (three 0x0C_00_00_00_15_00_00_00_1E_00_00_00 ++ all7 ++ all8 ++ all9) 0 8 (done sevens)
+    ∷ reads-vector binary32 (three 0x0C_00_00_00_15_00_00_00_1E_00_00_00 ++ all7 ++ all8 ++ all9) 1 8 (done (replicate 8 0x41000000))
+    ∷ reads-vector binary32 (three 0x0C_00_00_00_15_00_00_00_1E_00_00_00 ++ all7 ++ all8 ++ all9) 2 1 (done (0x41100000 ∷ []))
+    -- room for more than its values
+    ∷ reads-vector binary32 (three 0x0C_00_00_00_15_00_00_00_1E_00_00_00 ++ all7 ++ all8 ++ all9) 2 17 (done (0x41100000 ∷ []))
+    -- 64-bit: the last of two, with an exception
+    ∷ reads-vector binary64
+    (hex 8 0x01_00_00_03_0A_00_00_00 ++ hex 8 0x08_00_00_00_15_00_00_00 ++ hex 4 0x00_00_00_00 ++ hex 9 0x07_00_00_00_00_00_00_00_00
+    ++ hex 4 0x00_00_01_00 ++ hex 9 0x08_00_00_00_00_00_00_00_00 ++ hex 2 0x01_00 ++ hex 8 0x00_00_00_00_00_00_00_80)
+    1 2 (done (0x4020000000000000 ∷ 0x8000000000000000 ∷ []))
+    -- 1 to 6, each before 30
+    ∷ reads-vector binary32 (hex 7 0x01_00_00_0A_00_00_00) 0 8 (refused 1 the-page)
+    ∷ reads-vector binary32 (hex 8 0x02_01_00_0A_00_00_00_00) 0 8 (refused 2 the-page)
+    ∷ reads-vector binary32 (hex 8 0x01_01_01_0A_00_00_00_00) 0 8 (refused 3 the-page)
+    ∷ reads-vector binary32 (hex 8 0x01_00_01_02_00_00_00_00) 0 8 (refused 4 the-page)
+    ∷ reads-vector binary32 (hex 8 0x01_00_00_02_00_00_00_00) 0 8 (refused 5 the-page)
+    ∷ reads-vector binary64 (hex 8 0x01_00_00_0A_01_40_00_00) 17 8 (refused 6 the-page)
+    -- 30: a page of no values has no vector 0, whatever stands behind its header
+    ∷ reads-vector binary32 (hex 8 0x01_00_00_0A_00_00_00_00) 0 8 (refused 30 the-page)
+    ∷ reads-vector binary64 (hex 8 0x01_00_00_0A_00_00_00_00 ++ hex 1 0x00) 0 0 (refused 30 the-page)
+    -- 30: number 3 of three vectors, and the largest number of 64 bits
+    ∷ reads-vector binary32 (three 0x0C_00_00_00_15_00_00_00_1E_00_00_00 ++ all7 ++ all8 ++ all9) 3 8 (refused 30 the-page)
+    ∷ reads-vector binary32 (three 0x0C_00_00_00_15_00_00_00_1E_00_00_00 ++ all7 ++ all8 ++ all9) 18446744073709551615 8 (refused 30 the-page)
+    -- 30 before 7 for the offsets, of which there are none; and 7 for a number that is there
+    ∷ reads-vector binary32 (hex 8 0x01_00_00_03_11_00_00_00) 3 8 (refused 30 the-page)
+    ∷ reads-vector binary32 (hex 8 0x01_00_00_03_11_00_00_00) 2 8 (refused 7 the-page)
+    -- 7 for the whole of the offsets, though the first two are there: the last byte of the third is not
+    ∷ reads-vector binary32 (hex 8 0x01_00_00_03_11_00_00_00 ++ hex 11 0x0C_00_00_00_15_00_00_00_1E_00_00) 0 8 (refused 7 the-page)
+    -- 8: vector 1 starts one byte before the end of the offsets, where a vector could be read
+    ∷ reads-vector binary32 (three 0x0C_00_00_00_0B_00_00_00_14_00_00_00 ++ all7 ++ all8 ++ all9) 1 8 (refused 8 (in-vector 1))
+    -- 8 before 7 for metadata: offset 0, and no vectors
+    ∷ reads-vector binary32 (three 0x0C_00_00_00_15_00_00_00_00_00_00_00) 2 8 (refused 8 (in-vector 2))
+    -- 7: vector 1 starts at the page's end, far past it, or eight bytes before it, with an exponent above E
+    ∷ reads-vector binary32 (three 0x0C_00_00_00_27_00_00_00_1E_00_00_00 ++ all7 ++ all8 ++ all9) 1 8 (refused 7 (in-vector 1))
+    ∷ reads-vector binary32 (three 0x0C_00_00_00_FF_FF_FF_FF_1E_00_00_00 ++ all7 ++ all8 ++ all9) 1 8 (refused 7 (in-vector 1))
+    ∷ reads-vector binary32 (three 0x0C_00_00_00_15_00_00_00_1E_00_00_00 ++ all7 ++ hex 4 0x0B_00_00_00 ++ hex 4 0x07_00_00_00) 1 8 (refused 7 (in-vector 1))
+    -- 9 to 12 in vector 1, each before the next
+    ∷ reads-vector binary32 (three 0x0C_00_00_00_15_00_00_00_1E_00_00_00 ++ all7 ++ hex 4 0x0B_0C_00_00 ++ hex 5 0x07_00_00_00_00 ++ all9) 1 8 (refused 9 (in-vector 1))
+    ∷ reads-vector binary32 (three 0x0C_00_00_00_15_00_00_00_1E_00_00_00 ++ all7 ++ hex 4 0x01_02_09_00 ++ hex 5 0x07_00_00_00_00 ++ all9) 1 8 (refused 10 (in-vector 1))
+    ∷ reads-vector binary32 (three 0x0C_00_00_00_15_00_00_00_1E_00_00_00 ++ all7 ++ hex 4 0x00_00_09_00 ++ hex 5 0x07_00_00_00_21 ++ all9) 1 8 (refused 11 (in-vector 1))
+    ∷ reads-vector binary32 (three 0x0C_00_00_00_15_00_00_00_1E_00_00_00 ++ all7 ++ hex 4 0x00_00_00_00 ++ hex 5 0x07_00_00_00_21 ++ all9) 1 8 (refused 12 (in-vector 1))
+    -- 11: two exceptions of the last vector's one value, though a full one could have them
+    ∷ reads-vector binary32 (three 0x0C_00_00_00_15_00_00_00_1E_00_00_00 ++ all7 ++ all8 ++ hex 4 0x00_00_02_00 ++ hex 5 0x09_00_00_00_00) 2 8 (refused 11 (in-vector 2))
+    -- 7 for data before 8: width 32, whose 32 packed bytes are not there
+    ∷ reads-vector binary32 (three 0x0C_00_00_00_15_00_00_00_1E_00_00_00 ++ all7 ++ hex 4 0x00_00_00_00 ++ hex 5 0x07_00_00_00_20 ++ all9) 1 8 (refused 7 (in-vector 1))
+    -- 8 again: the next offset is one more or one less than where vector 1 ends; that is no fault of vector 0
+    ∷ reads-vector binary32 (three 0x0C_00_00_00_15_00_00_00_1F_00_00_00 ++ all7 ++ all8 ++ all9) 1 8 (refused 8 (in-vector 1))
+    ∷ reads-vector binary32 (three 0x0C_00_00_00_15_00_00_00_1D_00_00_00 ++ all7 ++ all8 ++ all9) 1 8 (refused 8 (in-vector 1))
+    ∷ reads-vector binary32 (three 0x0C_00_00_00_15_00_00_00_1D_00_00_00 ++ all7 ++ all8 ++ all9) 0 8 (done sevens)
+    -- 8 again: a byte behind the last vector, which is row 14 for a whole page
+    ∷ reads-vector binary32 (three 0x0C_00_00_00_15_00_00_00_1E_00_00_00 ++ all7 ++ all8 ++ all9 ++ hex 1 0x00) 2 8 (refused 8 (in-vector 2))
+    ∷ reads-vector binary32 (three 0x0C_00_00_00_15_00_00_00_1E_00_00_00 ++ all7 ++ all8 ++ all9 ++ hex 1 0x00) 1 8 (done (replicate 8 0x41000000))
+    -- 8 again before 13: position 8 of eight values, and a byte between this vector and the next
+    ∷ reads-vector binary32 (three 0x0C_00_00_00_15_00_00_00_25_00_00_00 ++ all7 ++ hex 4 0x00_00_01_00 ++ hex 5 0x08_00_00_00_00 ++ hex 2 0x08_00 ++ hex 4 0x00_00_C0_7F
+    ++ hex 1 0x00 ++ all9) 1 8 (refused 8 (in-vector 1))
+    -- 13, and before 15: no room
+    ∷ reads-vector binary32 (three 0x0C_00_00_00_15_00_00_00_24_00_00_00 ++ all7 ++ hex 4 0x00_00_01_00 ++ hex 5 0x08_00_00_00_00 ++ hex 2 0x08_00 ++ hex 4 0x00_00_C0_7F
+    ++ all9) 1 0 (refused 13 (in-vector-at 1 0))
+    -- 15: room for seven of eight, and for none of one
+    ∷ reads-vector binary32 (three 0x0C_00_00_00_15_00_00_00_1E_00_00_00 ++ all7 ++ all8 ++ all9) 1 7 (refused 15 the-page)
+    ∷ reads-vector binary32 (three 0x0C_00_00_00_15_00_00_00_1E_00_00_00 ++ all7 ++ all8 ++ all9) 2 0 (refused 15 the-page)
+    -- faults of others: vector 0 with an exponent above E, vector 2 with none of its bytes
+    ∷ reads-vector binary32 (three 0x0C_00_00_00_15_00_00_00_1E_00_00_00 ++ hex 4 0x0B_00_00_00 ++ hex 5 0x07_00_00_00_00 ++ all8) 1 8 (done (replicate 8 0x41000000))
+    -- a gap before vector 1 is a fault of vector 0 alone
+    ∷ reads-vector binary32 (three 0x0C_00_00_00_16_00_00_00_1F_00_00_00 ++ all7 ++ hex 1 0xFF ++ all8 ++ all9) 1 8 (done (replicate 8 0x41000000))
+    ∷ reads-vector binary32 (three 0x0C_00_00_00_16_00_00_00_1F_00_00_00 ++ all7 ++ hex 1 0xFF ++ all8 ++ all9) 0 8 (refused 8 (in-vector 0))
+    -- the stored offset counts, not the sum of the sizes before it: vector 1 stands on vector 0's bytes
+    ∷ reads-vector binary32 (three 0x0C_00_00_00_0C_00_00_00_15_00_00_00 ++ all7 ++ all8) 1 8 (done sevens)
+    ∷ reads-vector binary32 (three 0x0C_00_00_00_0C_00_00_00_15_00_00_00 ++ all7 ++ all8) 2 8 (done (0x41000000 ∷ []))
+    ∷ reads-vector binary32 (three 0x0C_00_00_00_0C_00_00_00_15_00_00_00 ++ all7 ++ all8) 0 8 (refused 8 (in-vector 0))
+    ∷ []
+
 -- ---- the table
 
 unfoldable pub edges : List Line
-edges = arithmetic ++ returns ++ shapes ++ refusals ++ flaws ++ settings
+edges = arithmetic ++ returns ++ shapes ++ refusals ++ flaws ++ settings ++ alone
 
 pub edges-hold : allHold edges ≡ true
-unfolding allRules rising edges arithmetic returns shapes refusals flaws settings
+unfolding allRules rising edges arithmetic returns shapes refusals flaws settings alone
 edges-hold = refl

@@ -14,6 +14,7 @@ use Rattle.rules.specs.Vector.{allVector}
 use Rattle.rules.specs.Page.{allPage}
 use Rattle.rules.specs.Verdict.{Point, in-vector, Result, done, refused, done-with}
 use Rattle.rules.specs.Read.{readOf, allRead}
+use Rattle.rules.specs.ReadVector.{readVectorOf, allReadVector}
 use Rattle.rules.specs.Examine.{examineOf, allExamine}
 use Rattle.rules.specs.Write.{bound, writeOf, allWrite}
 use Rattle.rules.specs.Calls.{measureOf}
@@ -28,10 +29,12 @@ hex (suc k) n = n / 256 ^ k % 256 ∷ hex k n
 
 -- calls, and what they must give. Pairs are bytes: exponent, then factor, for each vector
 pub data Line : Type 0 where
-  -- one call: the writer (kind, s, pairs, values, and the room that it is lent), measuring, the reader (kind, page, room), the examiner
+  -- one call: the writer (kind, s, pairs, values, and the room that it is lent), measuring, the reader (kind, page, room), the reading of one
+  -- vector (kind, page, number, room), the examiner
   writes : Format → ℕ → List ℕ → List ℕ → ℕ → Result → Line
   measures : Format → ℕ → List ℕ → List ℕ → Answer → Line
   reads : Format → List ℕ → ℕ → Result → Line
+  reads-vector : Format → List ℕ → ℕ → ℕ → Result → Line
   examines : Format → List ℕ → Result → Line
   -- kind, s, pairs, values, page: measuring gives the bound; the writer, lent just that, gives the page; the reader, lent just the count,
   -- the values; and the examiner is done with them
@@ -62,6 +65,7 @@ unfoldable pub holds : Line → Bool
 holds (writes fmt s pairs vs room r) = gives (writeOf fmt s pairs vs room) r
 holds (measures fmt s pairs vs a) = answers (measureOf fmt s pairs vs) a
 holds (reads fmt page room r) = gives (readOf fmt room page) r
+holds (reads-vector fmt page v room r) = gives (readVectorOf fmt v room page) r
 holds (examines fmt page r) = gives (examineOf fmt page) r
 holds (written fmt s pairs vs page) =
     answers (measureOf fmt s pairs vs) (done-with (bound fmt s (length vs)))
@@ -77,7 +81,7 @@ allHold (l ∷ ls) = holds l && allHold ls
 
 -- to unfold this is to unfold all of the above, and all rules
 unfoldable pub allRules : Unit {0}
-unfolding hex holds allHold allDigits allDecimal allVector allPage allRead allExamine allWrite measureOf
+unfolding hex holds allHold allDigits allDecimal allVector allPage allRead allReadVector allExamine allWrite measureOf
 allRules = tt
 
 -- ---- the starred recordings. A page is cut as document 01 cuts it: header, offsets, pair and count of exceptions, frame and width, packed
