@@ -39,23 +39,28 @@ module _ (fmt : Format) (v n low : ℕ) (l : Span) (bs : List ℕ) where
   unfolding aloneRows
   starts-early h = rw (lt-ltb (l .from) low h)
 
-  module _ (late : low ≤ l .from) (r : Check) (e : asVerdict r ≡ verdict (metaRows fmt v n (metaAt fmt bs) bs)) where
-    pub alone-stops : (a : Answer) → r ≡ No a → asVerdict (No a) ≡ verdict (aloneRows fmt v n low l (metaAt fmt bs) bs)
+  pub alone-stops : low ≤ l .from → (r : Check) → asVerdict r ≡ verdict (metaRows fmt v n (metaAt fmt bs) bs) → (a : Answer) → r ≡ No a
+      → asVerdict (No a) ≡ verdict (aloneRows fmt v n low l (metaAt fmt bs) bs)
+  unfolding aloneRows
+  alone-stops late r e a f = rw (le-ltb (l .from) low late) (stops r _ e a _ f)
+
+-- it starts behind the offsets, and the rows of its metadata pass
+pub record Described (fmt : Format) (v n low : ℕ) (l : Span) (bs : List ℕ) : Type 0 where
+  pub late : low ≤ l .from
+  pub described : verdict (metaRows fmt v n (metaAt fmt bs) bs) ≡ fine
+
+module _ {fmt : Format} {v n low : ℕ} {l : Span} {bs : List ℕ} (q : Described fmt v n low l bs) where
+  pub meta-passes : MetaPassed fmt n (metaAt fmt bs) bs
+  meta-passes = meta-fine fmt v n (metaAt fmt bs) bs (q .described)
+
+  module _ {k : ℕ} (ek : k ≡ vectorSize fmt n (metaAt fmt bs)) where
+    pub ends-elsewhere : (l .from + k ≡ l .to → ⊥) → refuse 8 (in-vector v) ≡ verdict (aloneRows fmt v n low l (metaAt fmt bs) bs)
     unfolding aloneRows
-    alone-stops a f = rw (le-ltb (l .from) low late) (stops r _ e a _ f)
+    ends-elsewhere h = rw (le-ltb (l .from) low (q .late), q .described, ← ek, ne-eqb (l .from + k) (l .to) h)
 
-    module _ (ok : r ≡ Fine) where
-      pub meta-passes : MetaPassed fmt n (metaAt fmt bs) bs
-      meta-passes = meta-fine fmt v n (metaAt fmt bs) bs (check-fine r e ok)
-
-      module _ (k : ℕ) (ek : k ≡ vectorSize fmt n (metaAt fmt bs)) where
-        pub ends-elsewhere : (l .from + k ≡ l .to → ⊥) → refuse 8 (in-vector v) ≡ verdict (aloneRows fmt v n low l (metaAt fmt bs) bs)
-        unfolding aloneRows
-        ends-elsewhere h = rw (le-ltb (l .from) low late, check-fine r e ok, ← ek, ne-eqb (l .from + k) (l .to) h)
-
-        pub alone-goes-on : l .from + k ≡ l .to → (q : Check) → asVerdict q ≡ verdict (listRows fmt v n (metaAt fmt bs) bs) → asVerdict q ≡ verdict (aloneRows fmt v n low l (metaAt fmt bs) bs)
-        unfolding aloneRows
-        alone-goes-on h q eq = rw (le-ltb (l .from) low late, check-fine r e ok, ← ek, eq-eqb (l .from + k) (l .to) h) eq
+    pub alone-goes-on : l .from + k ≡ l .to → (r : Check) → asVerdict r ≡ verdict (listRows fmt v n (metaAt fmt bs) bs) → asVerdict r ≡ verdict (aloneRows fmt v n low l (metaAt fmt bs) bs)
+    unfolding aloneRows
+    alone-goes-on h r e = rw (le-ltb (l .from) low (q .late), q .described, ← ek, eq-eqb (l .from + k) (l .to) h) e
 
 -- ---- all rows
 

@@ -1,3 +1,4 @@
+use Rattle.checks.proofs.Refusals.{check-fine}
 -- `check_alone` meets its contract: where the vector starts, its metadata, where it ends, its positions. Assumes nothing.
 use denote.Ref.{now}
 use mathlib.Core.Path.{_≡_, ap, _∙_}
@@ -5,7 +6,7 @@ use native.Mathlib.Omega.{arith}
 use Rattle.rules.specs.Page.{vectorSize, metaAt}
 use Rattle.checks.specs.Forms.{formatOf}
 use Rattle.vector_reader.specs.Spans.{asSpan}
-use Rattle.vector_reader.proofs.Refusals.{starts-early, alone-stops, meta-passes, ends-elsewhere, alone-goes-on}
+use Rattle.vector_reader.proofs.Refusals.{starts-early, alone-stops, Described, meta-passes, ends-elsewhere, alone-goes-on}
 use borrow.Author.Needs.{needs}
 use Rattle.vector_reader.proofs.check_alone.Statement.{statement}
 use Rattle.vector_reader.proofs.check_alone.Tie as tie
@@ -20,6 +21,10 @@ use Rattle.checks.proofs.vector.meta_at.Reads as meta-at-reads
 -- the size that was worked out is the vector's
 size-is : (c : tie.After-vector-size) → c .vector-size .result ≡ vectorSize (formatOf (c .before .before .before .before .before .before .before .args .kind)) (c .before .before .before .before .before .before .before .args .n) (metaAt (formatOf (c .before .before .before .before .before .before .before .args .kind)) (now (c .before .before .before .before .before .before .before .args .part)))
 size-is c = let a = c .before .before .before .before .before .before .before .args in c .vector-size .ensures ∙ ap (vectorSize (formatOf (a .kind)) (a .n)) (c .before .meta-at .ensures .meta-is)
+
+-- where the metadata's rows have passed
+described : (c : tie.After-enum-told) → Described (formatOf (c .before .before .before .before .before .args .kind)) (c .before .before .before .before .before .args .v) (c .before .before .before .before .before .args .n) (c .before .before .before .before .before .args .low) (asSpan (c .before .before .before .before .before .args .span)) (now (c .before .before .before .before .before .args .part))
+described c = record { late = c .before .before .before .if1 .left; described = check-fine (c .before .before .check-meta .result) (c .before .before .check-meta .ensures) (c .enum-told .given .1) }
 
 refuses-requires : tie.Need-refuses-requires
 refuses-requires c κs = search needs
@@ -40,25 +45,25 @@ enum-told : tie.Need-enum-told
 enum-told c = search needs
 
 meta-at-requires : tie.Need-meta-at-requires
-meta-at-requires c κs = let a = c .before .before .before .before .before .args in meta-passes (formatOf (a .kind)) (a .v) (a .n) (a .low) (asSpan (a .span)) (now (a .part)) (c .before .before .before .if1 .left) (c .before .before .check-meta .result) (c .before .before .check-meta .ensures) (c .enum-told .given .1) .room
+meta-at-requires c κs = meta-passes (described c) .room
 
 vector-size-requires : tie.Need-vector-size-requires
 vector-size-requires c κs = search needs
 
 add-if2 : tie.Need-add-if2
-add-if2 c = let a = c .before .before .before .before .before .before .before .args in let m = meta-passes (formatOf (a .kind)) (a .v) (a .n) (a .low) (asSpan (a .span)) (now (a .part)) (c .before .before .before .before .before .if1 .left) (c .before .before .before .before .check-meta .result) (c .before .before .before .before .check-meta .ensures) (c .before .before .enum-told .given .1) in omega (arith, size-is c, m .whole)
+add-if2 c = omega (arith, size-is c, meta-passes (described (c .before .before)) .whole)
 
 refuses-requires-2 : tie.Need-refuses-requires-2
 refuses-requires-2 c κs = search needs
 
 returns-3 : tie.Need-returns-3
-returns-3 c = let a = c .before .before .before .before .before .before .before .before .before .before .args in c .refuses2 .ensures ∙ ends-elsewhere (formatOf (a .kind)) (a .v) (a .n) (a .low) (asSpan (a .span)) (now (a .part)) (c .before .before .before .before .before .before .before .before .if1 .left) (c .before .before .before .before .before .before .before .check-meta .result) (c .before .before .before .before .before .before .before .check-meta .ensures) (c .before .before .before .before .before .enum-told .given .1) (c .before .before .before .vector-size .result) (size-is (c .before .before .before)) (c .before .if2 .taken)
+returns-3 c = c .refuses2 .ensures ∙ ends-elsewhere (described (c .before .before .before .before .before)) (size-is (c .before .before .before)) (c .before .if2 .taken)
 
 check-list-requires : tie.Need-check-list-requires
-check-list-requires c κs = let a = c .before .before .before .before .before .before .before .before .before .args in (omega arith, meta-passes (formatOf (a .kind)) (a .v) (a .n) (a .low) (asSpan (a .span)) (now (a .part)) (c .before .before .before .before .before .before .before .if1 .left) (c .before .before .before .before .before .before .check-meta .result) (c .before .before .before .before .before .before .check-meta .ensures) (c .before .before .before .before .enum-told .given .1) .whole)
+check-list-requires c κs = (omega arith, meta-passes (described (c .before .before .before .before)) .whole)
 
 returns-4 : tie.Need-returns-4
-returns-4 c = let a = c .before .before .before .before .before .before .before .before .before .before .args in alone-goes-on (formatOf (a .kind)) (a .v) (a .n) (a .low) (asSpan (a .span)) (now (a .part)) (c .before .before .before .before .before .before .before .before .if1 .left) (c .before .before .before .before .before .before .before .check-meta .result) (c .before .before .before .before .before .before .before .check-meta .ensures) (c .before .before .before .before .before .enum-told .given .1) (c .before .before .before .vector-size .result) (size-is (c .before .before .before)) (c .before .if2 .left) (c .check-list .result) (c .check-list .ensures)
+returns-4 c = alone-goes-on (described (c .before .before .before .before .before)) (size-is (c .before .before .before)) (c .before .if2 .left) (c .check-list .result) (c .check-list .ensures)
 
 pub check-alone-spec : {M : Type 1} → statement M
 check-alone-spec =
