@@ -1,5 +1,5 @@
 -- The words in which the demands are said (theorems/proofs/Demands states and proves them): what holds of every call, of what it
--- leaves, and of a byte list that the examiner looks at. Assumes nothing.
+-- leaves, of a byte list that the examiner looks at, and of two that one vector's reading can't tell apart. Assumes nothing.
 use Prim.Native.Nat.{ℕ, _≤_}
 use mathlib.Core.Path.{_≡_}
 use mathlib.Core.Logic.{_↔_}
@@ -11,8 +11,10 @@ use Rattle.digits.specs.Lists.{Each}
 use Rattle.rules.specs.Verdict.{Point, Rows, ordered, Passes, FirstTrue, Result, done, refused, after}
 use Rattle.rules.specs.Calls.{among}
 use Rattle.rules.specs.Decimal.{Pair}
+use Rattle.rules.specs.Page.{vectorSize, metaAt}
 use Rattle.rules.specs.Write.{PageOf}
 use Rattle.rules.specs.Read.{readOf}
+use Rattle.rules.specs.ReadVector.{valuesIn, spanOf, partFrom}
 use Rattle.rules.specs.Examine.{examineOf}
 
 -- a call that gave r: its rows, the numbers that it may refuse with, and what it gives where it does not refuse
@@ -42,3 +44,17 @@ pub record Examines (fmt : Format) (bs : List ℕ) : Type 0 where
   pub one-only : (s s′ : ℕ) (ps ps′ : List Pair) (vs vs′ : List ℕ) → PageOf fmt bs s ps vs → PageOf fmt bs s′ ps′ vs′ → (s ≡ s′) × (ps ≡ ps′) × (vs ≡ vs′)
   -- and reading gives it, given room
   pub reads : (vs : List ℕ) (room : ℕ) → examineOf fmt bs ≡ done vs → length vs ≤ room → readOf fmt room bs ≡ done vs
+
+-- ---- of one vector by its number
+
+-- its bytes, and all behind them
+abbrev pub vectorAt : List ℕ → ℕ → List ℕ
+vectorAt bs v = partFrom bs (spanOf bs v)
+
+-- two byte lists that agree where the reading of vector v looks: their length, the header, where the offsets say that the vector lies, and as
+-- many bytes from there on as it has
+pub record Alike (fmt : Format) (v : ℕ) (bs cs : List ℕ) : Type 0 where
+  pub long : length bs ≡ length cs
+  pub header : take 8 bs ≡ take 8 cs
+  pub offsets : spanOf bs v ≡ spanOf cs v
+  pub vector : let size = vectorSize fmt (valuesIn bs v) (metaAt fmt (vectorAt bs v)) in take size (vectorAt bs v) ≡ take size (vectorAt cs v)

@@ -27,7 +27,7 @@ use Rattle.rules.specs.ReadVector.{valuesIn, readVectorRows, vectorValues, read
 use Rattle.rules.specs.Examine.{unusedSet, examineRows, examineOf}
 use Rattle.rules.specs.Write.{pairsOf, Allowed, Inside, settingsRows, bound, writeRows, writeOf}
 use Rattle.rules.specs.Calls.{measureOf, Measured, Written, Read, ReadVector, Examined, among, given-by-measuring, given-by-writer, given-by-reader, given-by-vector-reader, given-by-examiner}
-use Rattle.rules.specs.Demands.{Answers, Leaves, Examines}
+use Rattle.rules.specs.Demands.{Answers, Leaves, Examines, Alike}
 use Rattle.rules.specs.declared.Answer.{Answer}
 use Rattle.rules.proofs.Order.{width-holds, width-fewest}
 use Rattle.rules.proofs.Settings.{settings-pass, settings-fine}
@@ -39,6 +39,7 @@ use Rattle.theorems.proofs.GivenBy.{measuring-numbered, writer-numbered
 use Rattle.theorems.proofs.RoundTrip.{written-length, round-trip}
 use Rattle.theorems.proofs.Done.{examined-count, writer-done, page-when-done, writer-room, reader-room, read-done, read-values-done, vector-done, vector-values-done, vector-reader-room, examined-reads}
 use Rattle.theorems.proofs.Stretch.{vector-is-stretch}
+use Rattle.theorems.proofs.Elsewhere.{elsewhere-does-not-matter}
 use Rattle.theorems.proofs.Listing.{listed-exactly}
 use Rattle.theorems.proofs.Bits.{encoded-bit, fields-bit, unused-exactly}
 use Rattle.theorems.proofs.OnePage.{accepted-is-page, page-is-accepted, one-page}
@@ -122,6 +123,10 @@ read-vector-width fmt v room bs vs h e = vector-values-done fmt v room bs vs e h
 pub one-vector-is-its-stretch : (fmt : Format) (room : ℕ) (bs vs : List ℕ) → readOf fmt room bs ≡ done vs → (v : ℕ) → v < vectorsOf bs → (lent : ℕ) → valuesIn bs v ≤ lent
     → readVectorOf fmt v lent bs ≡ done (take (2 ^ sOf bs) (drop (v * 2 ^ sOf bs) vs))
 one-vector-is-its-stretch fmt room bs vs e v there lent fits = vector-is-stretch fmt room bs vs e v there lent fits
+
+-- and what lies elsewhere does not matter: the header, two offsets, the vector's own bytes and the page's length decide all
+pub one-vector-looks-nowhere-else : (fmt : Format) (v room : ℕ) (bs cs : List ℕ) → Alike fmt v bs cs → readVectorOf fmt v room bs ≡ readVectorOf fmt v room cs
+one-vector-looks-nowhere-else fmt v room bs cs q = elsewhere-does-not-matter fmt v bs cs q room
 
 -- a position of a written vector has its value's own bits stored where the value is an exception, and nothing anywhere else
 pub exceptions-exactly : (fmt : Format) (p : Pair) (vs : List ℕ) (i : ℕ) → i < length vs

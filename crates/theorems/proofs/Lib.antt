@@ -15,3 +15,4 @@ pub mod Examples
 pub mod Demands
 pub mod InTurn
 pub mod Longer
+pub mod Elsewhere

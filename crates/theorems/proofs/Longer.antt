@@ -56,7 +56,7 @@ number-same at k xs ys h =
     let b : take k (drop at xs ++ ys) ≡ take k (drop at xs) = take-append-le k (drop at xs) ys (rw length-drop (omega arith)) in
     ap number (ap (take k) a ∙ b)
 
-numbers-same : (k c : ℕ) (xs ys : List ℕ) → c * k ≤ length xs → numbers k c (xs ++ ys) ≡ numbers k c xs
+pub numbers-same : (k c : ℕ) (xs ys : List ℕ) → c * k ≤ length xs → numbers k c (xs ++ ys) ≡ numbers k c xs
 unfolding numbers
 numbers-same k zero xs ys h = refl
 numbers-same k (suc c) xs ys h =
@@ -74,7 +74,7 @@ longer xs ys = rw length-append (omega arith)
 
 -- ---- one vector: `most` is what it has at most
 
-meta-same : (fmt : Format) (part behind : List ℕ) → metaBytes fmt ≤ length part → metaAt fmt (part ++ behind) ≡ metaAt fmt part
+pub meta-same : (fmt : Format) (part behind : List ℕ) → metaBytes fmt ≤ length part → metaAt fmt (part ++ behind) ≡ metaAt fmt part
 unfolding metaAt
 meta-same fmt part behind l =
     let e = at-front part behind 0 (omega arith) in
@@ -354,7 +354,7 @@ reader-answers-as-front fmt room front behind out long = (
 
 -- ==== Of any list: its first k bytes, k above the longest page, give what the whole list gives
 
-first-of : {A : Type 0} (f : List ℕ → A) (k : ℕ) (bs : List ℕ) → (k ≤ length bs → f (take k bs ++ drop k bs) ≡ f (take k bs)) → f (take k bs) ≡ f bs
+pub first-of : {A : Type 0} (f : List ℕ → A) (k : ℕ) (bs : List ℕ) → (k ≤ length bs → f (take k bs ++ drop k bs) ≡ f (take k bs)) → f (take k bs) ≡ f bs
 first-of f k bs h = elim (decLe k (length bs)) [
   | yes l ↦ sym (h l) ∙ ap f (take-append-drop k bs)
   | no l ↦ ap f (take-all k bs (le-of-lt (lt-of-not-le l)))
