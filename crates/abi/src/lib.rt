@@ -3,7 +3,7 @@
 // against this file, so the boundary stays as small as this.
 use rules::Answer;
 ghost use lib.Ieee.{binary32, binary64};
-ghost use Rattle.rules.specs.Calls.{Measured, Written, Read, Examined};
+ghost use Rattle.rules.specs.Calls.{Measured, Written, Read, ReadVector, Examined};
 
 #[no_mangle]
 pub extern "C" fn alp_measure32(values: &[u32], s: u8, pairs: &[u8]) -> Answer
@@ -45,6 +45,20 @@ pub extern "C" fn alp_read64(page: &[u8], out: &mut [u64]) -> Answer
     ensures { λ r. ⌜ Read binary64 (now (page .entry)) (now (out .entry)) r (now (out .exit)) ⌝ }
 {
     reader::read64(page, out)
+}
+
+#[no_mangle]
+pub extern "C" fn alp_read_vector32(page: &[u8], number: usize, out: &mut [u32]) -> Answer
+    ensures { λ r. ⌜ ReadVector binary32 (now (page .entry)) number (now (out .entry)) r (now (out .exit)) ⌝ }
+{
+    vector_reader::read_vector32(page, number, out)
+}
+
+#[no_mangle]
+pub extern "C" fn alp_read_vector64(page: &[u8], number: usize, out: &mut [u64]) -> Answer
+    ensures { λ r. ⌜ ReadVector binary64 (now (page .entry)) number (now (out .entry)) r (now (out .exit)) ⌝ }
+{
+    vector_reader::read_vector64(page, number, out)
 }
 
 #[no_mangle]
