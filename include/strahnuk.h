@@ -61,36 +61,37 @@ typedef struct strahnuk_answer {
 enum strahnuk_row {
     /* nothing is refused; all calls */
     STRAHNUK_DONE = 0,
-    /* fewer than 8 bytes; read, examine */
+    /* fewer than 8 bytes; read, read vector, examine */
     STRAHNUK_FEW_BYTES = 1,
-    /* the version is not 1; read, examine */
+    /* the version is not 1; read, read vector, examine */
     STRAHNUK_VERSION = 2,
-    /* the mode is not 0; read, examine */
+    /* the mode is not 0; read, read vector, examine */
     STRAHNUK_MODE = 3,
-    /* the integer encoding is not 0; read, examine */
+    /* the integer encoding is not 0; read, read vector, examine */
     STRAHNUK_INTEGER_ENCODING = 4,
     /* s is below 3 or above 10; all calls */
     STRAHNUK_VECTOR_SIZE = 5,
     /* more than 16,384 values; all calls */
     STRAHNUK_TOO_MANY_VALUES = 6,
-    /* the offsets, a vector's metadata or its data run past the end; read, examine; vector: 0 for the offsets, else that vector */
+    /* the offsets, a vector's metadata or its data run past the end; read, read vector, examine; vector: 0 for the offsets, else that
+       vector */
     STRAHNUK_PAST_END = 7,
-    /* an offset differs from the layout's; read, examine; vector: that offset's */
+    /* an offset differs from the layout's; read, read vector, examine; vector: that offset's, but for read vector the one asked for */
     STRAHNUK_OFFSET = 8,
     /* the exponent is above the kind's largest; all calls; vector: that vector */
     STRAHNUK_EXPONENT = 9,
     /* the factor is above the exponent; all calls; vector: that vector */
     STRAHNUK_FACTOR = 10,
-    /* more exceptions than values in the vector; read, examine; vector: that vector */
+    /* more exceptions than values in the vector; read, read vector, examine; vector: that vector */
     STRAHNUK_TOO_MANY_EXCEPTIONS = 11,
-    /* the width is above the kind's; read, examine; vector: that vector */
+    /* the width is above the kind's; read, read vector, examine; vector: that vector */
     STRAHNUK_WIDTH = 12,
-    /* a position is not below the vector's count, or not above the one before; read, examine; vector: that vector; place: the position's
-       index in the list */
+    /* a position is not below the vector's count, or not above the one before; read, read vector, examine; vector: that vector; place:
+       the position's index in the list */
     STRAHNUK_POSITION = 13,
     /* bytes after the last vector; read, examine */
     STRAHNUK_BYTES_AFTER = 14,
-    /* the lent output is too short; write, read */
+    /* the lent output is too short; write, read, read vector */
     STRAHNUK_OUTPUT_TOO_SHORT = 15,
     /* the pairs are not one per vector; measure, write */
     STRAHNUK_PAIRS = 16,
@@ -104,7 +105,9 @@ enum strahnuk_row {
     /* a listed position does not hold the stand-in; examine; vector: that vector; place: the position in it */
     STRAHNUK_STAND_IN = 23,
     /* the frame is not the smallest, or the width is not the fewest bits; examine; vector: that vector */
-    STRAHNUK_FRAME_OR_WIDTH = 24
+    STRAHNUK_FRAME_OR_WIDTH = 24,
+    /* there is no vector of that number; read vector */
+    STRAHNUK_NO_SUCH_VECTOR = 30
 };
 
 /*
@@ -133,6 +136,18 @@ strahnuk_answer alp_write64(const uint64_t *values, size_t values_length, uint8_
  */
 strahnuk_answer alp_read32(const uint8_t *page, size_t page_length, uint32_t *out, size_t out_length);
 strahnuk_answer alp_read64(const uint8_t *page, size_t page_length, uint64_t *out, size_t out_length);
+
+/*
+ * Read vector: the values of one vector of a page, by its number, into `out`. Where read accepts the page, they are the stretch of its
+ * values that begins at number x 2^s. Only the header, the vector's own offset, the next one and the vector itself are looked at: that is
+ * the whole cost, and a fault anywhere else is not seen. Done's place: the vector's count of values, never more than
+ * 1 << STRAHNUK_LARGEST_S.
+ * Rows in order: 1 to 6; 30 if `number` is not below the count of vectors, so always on a page of no values; 7 for the offsets; 8 if the
+ * vector starts before their end; 7 for its metadata, also if it starts past the page's end; 9 to 12; 7 for its data; 8 if it does not end
+ * where the next offset says, or the last vector at the page's end; 13; then 15 if `out` is shorter than the vector's count of values.
+ */
+strahnuk_answer alp_read_vector32(const uint8_t *page, size_t page_length, size_t number, uint32_t *out, size_t out_length);
+strahnuk_answer alp_read_vector64(const uint8_t *page, size_t page_length, size_t number, uint64_t *out, size_t out_length);
 
 /*
  * Examine: whether these bytes are a page that write gives for some values and settings. Done's place: the count of values.
@@ -172,6 +187,7 @@ static inline const char *strahnuk_sentence(uint64_t number)
     case STRAHNUK_LISTED: return "a listed value is no exception";
     case STRAHNUK_STAND_IN: return "a listed position does not hold the stand-in";
     case STRAHNUK_FRAME_OR_WIDTH: return "the frame is not the smallest, or the width is not the fewest bits";
+    case STRAHNUK_NO_SUCH_VECTOR: return "there is no vector of that number";
     default: return "not a row of the table";
     }
 }
