@@ -58,10 +58,10 @@ fn bytes_of(pairs: &[Pair]) -> &[u8] {
     unsafe { slice::from_raw_parts(pairs.as_ptr().cast(), pairs.len() * 2) }
 }
 
-/// Declares the four calls of one kind as crates/abi exports them, and a safe function over each.
+/// Declares the five calls of one kind as crates/abi exports them, and a safe function over each.
 macro_rules! calls {
     ($bits:ty: $measure:ident $alp_measure:ident, $write:ident $alp_write:ident, $read:ident $alp_read:ident,
-     $examine:ident $alp_examine:ident) => {
+     $read_vector:ident $alp_read_vector:ident, $examine:ident $alp_examine:ident) => {
         #[link(name = "abi", kind = "static")]
         extern "C" {
             fn $alp_measure(
@@ -83,6 +83,13 @@ macro_rules! calls {
             fn $alp_read(
                 page: *const u8,
                 page_length: usize,
+                out: *mut $bits,
+                out_length: usize,
+            ) -> Answer;
+            fn $alp_read_vector(
+                page: *const u8,
+                page_length: usize,
+                number: usize,
                 out: *mut $bits,
                 out_length: usize,
             ) -> Answer;
@@ -119,6 +126,14 @@ macro_rules! calls {
             unsafe { $alp_read(page.as_ptr(), page.len(), out.as_mut_ptr(), out.len()) }
         }
 
+        pub(crate) fn $read_vector(page: &[u8], number: usize, out: &mut [$bits]) -> Answer {
+            let _floats = PlainFloats::enter();
+            // SAFETY: each pointer is a slice's, with its length; `out` is borrowed mutably, so it overlaps nothing else.
+            unsafe {
+                $alp_read_vector(page.as_ptr(), page.len(), number, out.as_mut_ptr(), out.len())
+            }
+        }
+
         pub(crate) fn $examine(page: &[u8]) -> Answer {
             let _floats = PlainFloats::enter();
             // SAFETY: the pointer is a slice's, with its length; the archive reads no further and writes nothing.
@@ -127,5 +142,7 @@ macro_rules! calls {
     };
 }
 
-calls!(u32: measure32 alp_measure32, write32 alp_write32, read32 alp_read32, examine32 alp_examine32);
-calls!(u64: measure64 alp_measure64, write64 alp_write64, read64 alp_read64, examine64 alp_examine64);
+calls!(u32: measure32 alp_measure32, write32 alp_write32, read32 alp_read32, read_vector32 alp_read_vector32,
+    examine32 alp_examine32);
+calls!(u64: measure64 alp_measure64, write64 alp_write64, read64 alp_read64, read_vector64 alp_read_vector64,
+    examine64 alp_examine64);

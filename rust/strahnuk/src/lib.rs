@@ -53,6 +53,9 @@ pub use refusal::{Refusal, Row};
 /// A page holds at most this many values.
 pub const MOST_VALUES: usize = 16_384;
 
+/// A vector holds at most this many values.
+pub const MOST_IN_VECTOR: usize = 1_024;
+
 /// The settings of one vector: its values times 10^exponent, then times 10^-factor, are to be whole numbers. A value for which they are
 /// not is an exception: it is stored whole and comes back all the same.
 ///
@@ -94,12 +97,24 @@ fn values_to_lend(page: &[u8]) -> usize {
     }
 }
 
+/// The values that `read` writes to an output of so many.
+fn values_read<B: Clone + Default>(
+    lent: usize,
+    read: impl FnOnce(&mut [B]) -> Result<usize, Refusal>,
+) -> Result<Vec<B>, Refusal> {
+    let mut values = vec![B::default(); lent];
+    let count = read(&mut values)?;
+    values.truncate(count);
+    Ok(values)
+}
+
 /// The public calls of one kind. The two kinds differ in names and widths alone, so they are written once; `$n` is the kind's 32 or 64, for
 /// the names in the documentation and its examples.
 macro_rules! kind {
     (
         $n:literal $bits:ident $float:ident:
-        $measure:ident $write:ident $write_into:ident $read:ident $read_into:ident $examine:ident $write_floats:ident $read_floats:ident
+        $measure:ident $write:ident $write_into:ident $read:ident $read_into:ident $read_vector:ident $read_vector_into:ident
+        $examine:ident $write_floats:ident $read_floats:ident $read_vector_floats:ident
     ) => {
         #[doc = concat!("The room in bytes that [`write_into", $n, "`] asks for: a bound, so the page may be shorter.")]
         ///
@@ -181,10 +196,7 @@ macro_rules! kind {
         /// # }
         /// ```
         pub fn $read(page: &[u8]) -> Result<Vec<$bits>, Refusal> {
-            let mut values = vec![0; values_to_lend(page)];
-            let count = $read_into(page, &mut values)?;
-            values.truncate(count);
-            Ok(values)
+            values_read(values_to_lend(page), |out| $read_into(page, out))
         }
 
         #[doc = concat!("Reads the bit patterns of a page into `out`, as [`read", $n, "`] does, and gives their count.")]
@@ -205,6 +217,55 @@ macro_rules! kind {
         /// ```
         pub fn $read_into(page: &[u8], out: &mut [$bits]) -> Result<usize, Refusal> {
             outcome(foreign::$read(page, out))
+        }
+
+        /// The bit patterns of one vector of a page, by its number, counted from 0. Where
+        #[doc = concat!("[`read", $n, "`] accepts the page, they are the stretch of its values that begins at `number` times 2^s.")]
+        ///
+        /// Only the header, the vector's own offset, the next one and the vector itself are looked at: that is the whole cost, and a fault
+        /// anywhere else is not seen. No more than 1,024 values are ever allocated.
+        ///
+        /// Rows in order: 1 to 6; 30 if `number` is not below the count of vectors, so always on a page of no values; 7 for the offsets;
+        /// 8 if the vector starts before their end; 7 for its metadata, also if it starts past the page's end; 9 to 12; 7 for its data; 8
+        /// if it does not end where the next offset says, or the last vector at the page's end; 13.
+        ///
+        /// ```
+        #[doc = concat!("use strahnuk::{read_vector", $n, ", write", $n, ", Pair, Row};")]
+        /// # fn main() -> Result<(), strahnuk::Refusal> {
+        /// // Nine values in vectors of eight: vector 1 holds the ninth.
+        #[doc = concat!("let mut column = [7.0_f", $n, ".to_bits(); 9];")]
+        #[doc = concat!("column[8] = (-0.0_f", $n, ").to_bits();")]
+        #[doc = concat!("let page = write", $n, "(&column, 3, &[Pair::default(); 2])?;")]
+        #[doc = concat!("assert_eq!(read_vector", $n, "(&page, 0)?, column[..8]);")]
+        #[doc = concat!("assert_eq!(read_vector", $n, "(&page, 1)?, column[8..]);")]
+        #[doc = concat!("assert_eq!(read_vector", $n, "(&page, 2).unwrap_err().row, Row::NoSuchVector);")]
+        /// # Ok(())
+        /// # }
+        /// ```
+        pub fn $read_vector(page: &[u8], number: usize) -> Result<Vec<$bits>, Refusal> {
+            // A vector holds no more than its page does, nor more than 1,024: a header that claims more is refused before row 15.
+            values_read(MOST_IN_VECTOR.min(values_to_lend(page)), |out| $read_vector_into(page, number, out))
+        }
+
+        #[doc = concat!("Reads the bit patterns of one vector into `out`, as [`read_vector", $n, "`] does, and gives their count.")]
+        ///
+        #[doc = concat!("Rows in order: those of [`read_vector", $n, "`], then 15 if `out` is shorter than the vector's count of values,")]
+        /// which is at most [`MOST_IN_VECTOR`].
+        ///
+        /// ```
+        #[doc = concat!("use strahnuk::{read_vector_into", $n, ", write", $n, ", Pair, Row};")]
+        /// # fn main() -> Result<(), strahnuk::Refusal> {
+        #[doc = concat!("let column = [7.0_f", $n, ".to_bits(); 10];")]
+        #[doc = concat!("let page = write", $n, "(&column, 3, &[Pair::default(); 2])?;")]
+        /// let mut out = [0; 3];
+        #[doc = concat!("assert_eq!(read_vector_into", $n, "(&page, 1, &mut out)?, 2);")]
+        /// assert_eq!(out, [column[8], column[9], 0]);
+        #[doc = concat!("assert_eq!(read_vector_into", $n, "(&page, 0, &mut out).unwrap_err().row, Row::OutputTooShort);")]
+        /// # Ok(())
+        /// # }
+        /// ```
+        pub fn $read_vector_into(page: &[u8], number: usize, out: &mut [$bits]) -> Result<usize, Refusal> {
+            outcome(foreign::$read_vector(page, number, out))
         }
 
         #[doc = concat!("Whether these bytes are a page that [`write", $n, "`] gives for some values and settings; if so, the count")]
@@ -260,11 +321,29 @@ macro_rules! kind {
         pub fn $read_floats(page: &[u8]) -> Result<Vec<$float>, Refusal> {
             Ok($read(page)?.into_iter().map($float::from_bits).collect())
         }
+
+        #[doc = concat!("[`read_vector", $n, "`] for floats: their bits are those of the page.")]
+        ///
+        /// ```
+        #[doc = concat!("use strahnuk::{read_vector_f", $n, ", write_f", $n, ", Pair};")]
+        /// # fn main() -> Result<(), strahnuk::Refusal> {
+        #[doc = concat!("let page = write_f", $n, "(&[0.1; 9], 3, &[Pair { exponent: 1, factor: 0 }; 2])?;")]
+        #[doc = concat!("assert_eq!(read_vector_f", $n, "(&page, 1)?, [0.1]);")]
+        /// # Ok(())
+        /// # }
+        /// ```
+        pub fn $read_vector_floats(page: &[u8], number: usize) -> Result<Vec<$float>, Refusal> {
+            Ok($read_vector(page, number)?.into_iter().map($float::from_bits).collect())
+        }
     };
 }
 
-kind!("32" u32 f32: measure32 write32 write_into32 read32 read_into32 examine32 write_f32 read_f32);
-kind!("64" u64 f64: measure64 write64 write_into64 read64 read_into64 examine64 write_f64 read_f64);
+kind!("32" u32 f32:
+    measure32 write32 write_into32 read32 read_into32 read_vector32 read_vector_into32
+    examine32 write_f32 read_f32 read_vector_f32);
+kind!("64" u64 f64:
+    measure64 write64 write_into64 read64 read_into64 read_vector64 read_vector_into64
+    examine64 write_f64 read_f64 read_vector_f64);
 
 #[cfg(test)]
 mod tests {

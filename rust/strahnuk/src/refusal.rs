@@ -55,27 +55,28 @@ macro_rules! rows {
 }
 
 rows! {
-    1 FewBytes "fewer than 8 bytes", "read, examine";
-    2 Version "the version is not 1", "read, examine";
-    3 Mode "the mode is not 0", "read, examine";
-    4 IntegerEncoding "the integer encoding is not 0", "read, examine";
+    1 FewBytes "fewer than 8 bytes", "read, read vector, examine";
+    2 Version "the version is not 1", "read, read vector, examine";
+    3 Mode "the mode is not 0", "read, read vector, examine";
+    4 IntegerEncoding "the integer encoding is not 0", "read, read vector, examine";
     5 VectorSize "s is below 3 or above 10", "all calls";
     6 TooManyValues "more than 16,384 values", "all calls";
-    7 PastEnd "the offsets, a vector's metadata or its data run past the end", "read, examine";
-    8 Offset "an offset differs from the layout's", "read, examine";
+    7 PastEnd "the offsets, a vector's metadata or its data run past the end", "read, read vector, examine";
+    8 Offset "an offset differs from the layout's", "read, read vector, examine";
     9 Exponent "the exponent is above the kind's largest", "all calls";
     10 Factor "the factor is above the exponent", "all calls";
-    11 TooManyExceptions "more exceptions than values in the vector", "read, examine";
-    12 Width "the width is above the kind's", "read, examine";
-    13 Position "a position is not below the vector's count, or not above the one before", "read, examine";
+    11 TooManyExceptions "more exceptions than values in the vector", "read, read vector, examine";
+    12 Width "the width is above the kind's", "read, read vector, examine";
+    13 Position "a position is not below the vector's count, or not above the one before", "read, read vector, examine";
     14 BytesAfter "bytes after the last vector", "read, examine";
-    15 OutputTooShort "the lent output is too short", "write into, read into";
+    15 OutputTooShort "the lent output is too short", "write into, read into, read vector into";
     16 Pairs "the pairs are not one per vector", "measure, write";
     20 UnusedBit "an unused packed bit is 1", "examine";
     21 Unlisted "an unlisted whole number comes back as a value that is an exception, or that turns into another whole number", "examine";
     22 Listed "a listed value is no exception", "examine";
     23 StandIn "a listed position does not hold the stand-in", "examine";
     24 FrameOrWidth "the frame is not the smallest, or the width is not the fewest bits", "examine";
+    30 NoSuchVector "there is no vector of that number", "read vector";
 }
 
 /// A refusal: the row, and where. Nothing that was lent has changed.

@@ -66,7 +66,8 @@ fn rounding_is_really_set() {
 
 /// The tests of one kind, on hundredths: rounded otherwise, some would come back with other bits.
 macro_rules! environments {
-    ($kind:ident $float:ident $bits:ident $measure:ident $write_into:ident $read_into:ident $examine:ident) => {
+    ($kind:ident $float:ident $bits:ident $measure:ident $write_into:ident $read_into:ident
+     $read_vector_into:ident $examine:ident) => {
         #[test]
         fn $kind() {
             let column = [0.1, 0.7, 1.23, 4.56, 7.89, 0.29, 1.1, 2.2].map($float::to_bits);
@@ -74,15 +75,17 @@ macro_rules! environments {
             let call = || {
                 let mut page = [0xA5; 200];
                 let mut values: [$bits; 8] = [0; 8];
+                let mut alone: [$bits; 8] = [0; 8];
                 let room = $measure(&column, 3, &pairs);
                 let length = $write_into(&column, 3, &pairs, &mut page);
                 let examined = $examine(&page[..length.unwrap_or(0)]);
                 let count = $read_into(&page[..length.unwrap_or(0)], &mut values);
-                (page, values, room, length, examined, count)
+                let counted = $read_vector_into(&page[..length.unwrap_or(0)], 0, &mut alone);
+                (page, values, alone, room, length, examined, count, counted)
             };
             let plain = call();
-            assert_eq!(plain.1, column);
-            assert_eq!(plain.4, Ok(8));
+            assert_eq!((plain.1, plain.2), (column, column));
+            assert_eq!(plain.5, Ok(8));
             for environment in ENVIRONMENTS {
                 let (result, left) = under(environment, call);
                 assert_eq!(result, plain, "under {:04X}", environment);
@@ -92,8 +95,8 @@ macro_rules! environments {
     };
 }
 
-environments!(of_32_bits f32 u32 measure32 write_into32 read_into32 examine32);
-environments!(of_64_bits f64 u64 measure64 write_into64 read_into64 examine64);
+environments!(of_32_bits f32 u32 measure32 write_into32 read_into32 read_vector_into32 examine32);
+environments!(of_64_bits f64 u64 measure64 write_into64 read_into64 read_vector_into64 examine64);
 
 #[test]
 fn a_refusal_restores_too() {

@@ -2,7 +2,10 @@
 mod pages;
 
 use pages::{with, R1, R11, R2, R5, R6};
-use strahnuk::{examine32, examine64, read32, read64, write32, write64, Pair, Refusal, Row};
+use strahnuk::{
+    examine32, examine64, read32, read64, read_vector32, read_vector64, write32, write64, Pair,
+    Refusal, Row,
+};
 
 fn pair(exponent: u8, factor: u8) -> [Pair; 1] {
     [Pair { exponent, factor }]
@@ -12,11 +15,12 @@ fn bits(values: &[f32]) -> Vec<u32> {
     values.iter().map(|value| value.to_bits()).collect()
 }
 
-/// The column, at s 10 with one pair, gives the page, and the page gives the column.
+/// The column, at s 10 with one pair, gives the page, and the page gives the column, which is also its only vector.
 fn round(column: &[u32], exponent: u8, page: &[u8]) {
     assert_eq!(write32(column, 10, &pair(exponent, 0)).as_deref(), Ok(page));
     assert_eq!(examine32(page), Ok(column.len()));
     assert_eq!(read32(page).as_deref(), Ok(column));
+    assert_eq!(read_vector32(page, 0).as_deref(), Ok(column));
 }
 
 /// Reader and examiner refuse the page for the same row, in vector 0.
@@ -57,6 +61,7 @@ fn r7_of_64_bits() {
     assert_eq!(page[12..], [1, 0, 0, 0, 15, 0, 0, 0, 0, 0, 0, 0, 0]);
     assert_eq!(examine64(&page), Ok(1));
     assert_eq!(read64(&page), Ok(vec![1.5_f64.to_bits()]));
+    assert_eq!(read_vector64(&page, 0), Ok(vec![1.5_f64.to_bits()]));
 }
 
 #[test]

@@ -55,6 +55,11 @@ fn examined() -> Vec<(Vec<u8>, &'static str)> {
     ]
 }
 
+/// The numbers of all rows.
+fn table() -> BTreeSet<u64> {
+    (1..=16).chain(20..=24).chain([30]).collect()
+}
+
 #[test]
 fn every_row_is_met_and_prints() {
     let mut met = BTreeSet::new();
@@ -74,21 +79,15 @@ fn every_row_is_met_and_prints() {
     }
     seen(read_into32(&R5, &mut [0]).unwrap_err(), "15 0 0: the lent output is too short");
     seen(write32(&[0], 10, &[]).unwrap_err(), "16 0 0: the pairs are not one per vector");
-    let table: BTreeSet<u64> = (1..=16).chain(20..=24).collect();
-    assert_eq!(met, table);
+    seen(read_vector32(&R5, 1).unwrap_err(), "30 0 0: there is no vector of that number");
+    assert_eq!(met, table());
 }
 
 #[test]
 fn numbers_and_rows_agree() {
     for number in 0..100 {
-        match Row::from_number(number) {
-            Some(row) => assert_eq!(row.number(), number),
-            None => assert!(
-                number == 0 || (17..=19).contains(&number) || number > 24,
-                "{} is missing",
-                number
-            ),
-        }
+        let expected = table().get(&number).copied();
+        assert_eq!(Row::from_number(number).map(Row::number), expected);
     }
 }
 
@@ -129,5 +128,7 @@ fn hostile_counts_size_nothing() {
         };
         assert_eq!(read64(&page).unwrap_err().row, expected);
         assert_eq!(examine64(&page).unwrap_err().row, expected);
+        let expected = if count == 0 { Row::NoSuchVector } else { expected };
+        assert_eq!(read_vector64(&page, 0).unwrap_err().row, expected);
     }
 }
