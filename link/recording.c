@@ -1,7 +1,7 @@
 /*
- * Links the archive from C and tells one story: recorded columns of both kinds are measured, written, examined and read, refusals come
- * where they should, and the helpers for the floating-point environment do their work. Every byte and every bit is compared with what
- * stands written here. The first thing that fails is named on standard error and ends the program with status 1.
+ * Links the archive from C and tells one story: recorded columns of both kinds are measured, written, examined and read, whole and by the
+ * vector, refusals come where they should, and the helpers for the floating-point environment do their work. Every byte and every bit is
+ * compared with what stands written here. The first thing that fails is named on standard error and ends the program with status 1.
  *
  * The Rust program rust/strahnuk/examples/recording.rs tells the same story in the same words; link/run compares the two.
  */
@@ -18,6 +18,9 @@
 /* More than any page or column here needs, so that there is something behind each that must stay as it came. */
 #define ROOM 256
 #define UNTOUCHED_BYTE 0xA5
+/* The longest column here, and the most vectors. */
+#define MOST_VALUES 11
+#define MOST_VECTORS 2
 
 static unsigned shown; /* how many lines were printed; a story that stops short is told from a whole one by the count */
 
@@ -28,9 +31,10 @@ typedef struct recording {
     const char *name;
     int bits;
     uint8_t s;
-    uint8_t pair[2];
+    size_t vectors;
+    uint8_t pairs[2 * MOST_VECTORS];
     size_t count;
-    uint64_t values[8];
+    uint64_t values[MOST_VALUES];
     size_t length;
     uint8_t page[96];
 } recording;
@@ -43,26 +47,39 @@ typedef struct recording {
 #endif
 
 static const recording recordings[] = {
-    {"R1", 32, 10, {2, 0}, 4, {0x3F9D70A4, 0x4091EB85, 0x40FC7AE1, 0x3DF5C28F}, 26,
+    {"R1", 32, 10, 1, {2, 0}, 4, {0x3F9D70A4, 0x4091EB85, 0x40FC7AE1, 0x3DF5C28F}, 26,
      {0x01, 0x00, 0x00, 0x0A, 0x04, 0x00, 0x00, 0x00, 0x04, 0x00, 0x00, 0x00, 0x02, 0x00, 0x00, 0x00, 0x0C, 0x00, 0x00, 0x00, 0x0A,
       0x6F, 0xF0, 0x96, 0x30, 0x00}},
-    {"R2", 32, 10, {1, 0}, 4, {0x3FC00000, 0x7FC00000, 0x40200000, 0x3EAAAAAB}, 35,
+    {"R2", 32, 10, 1, {1, 0}, 4, {0x3FC00000, 0x7FC00000, 0x40200000, 0x3EAAAAAB}, 35,
      {0x01, 0x00, 0x00, 0x0A, 0x04, 0x00, 0x00, 0x00, 0x04, 0x00, 0x00, 0x00, 0x01, 0x00, 0x02, 0x00, 0x0F, 0x00, 0x00, 0x00, 0x04,
       0x00, 0x0A, 0x01, 0x00, 0x03, 0x00, 0x00, 0x00, 0xC0, 0x7F, 0xAB, 0xAA, 0xAA, LAST_OF_R2}},
     /* negative zero, a NaN with a payload, both infinities, 1.5, the smallest subnormal: all but 1.5 are exceptions */
-    {"specials", 32, 3, {1, 0}, 6, {0x80000000, 0x7FA12345, 0x7F800000, 0xFF800000, 0x3FC00000, 0x00000001}, 51,
+    {"specials", 32, 3, 1, {1, 0}, 6, {0x80000000, 0x7FA12345, 0x7F800000, 0xFF800000, 0x3FC00000, 0x00000001}, 51,
      {0x01, 0x00, 0x00, 0x03, 0x06, 0x00, 0x00, 0x00, 0x04, 0x00, 0x00, 0x00, 0x01, 0x00, 0x05, 0x00, 0x0F, 0x00, 0x00, 0x00, 0x00,
       0x00, 0x00, 0x01, 0x00, 0x02, 0x00, 0x03, 0x00, 0x05, 0x00, 0x00, 0x00, 0x00, 0x80, 0x45, 0x23, 0xA1, 0x7F, 0x00, 0x00, 0x80,
       0x7F, 0x00, 0x00, 0x80, 0xFF, 0x01, 0x00, 0x00, 0x00}},
-    {"R7", 64, 10, {1, 0}, 1, {0x3FF8000000000000}, 25,
+    /* 0.0 to 5.0 by halves, but for a negative zero in the second vector */
+    {"halves", 32, 3, 2, {1, 0, 1, 0}, 11,
+     {0x00000000, 0x3F000000, 0x3F800000, 0x3FC00000, 0x40000000, 0x40200000, 0x40400000, 0x40600000, 0x40800000, 0x80000000,
+      0x40A00000}, 48,
+     {0x01, 0x00, 0x00, 0x03, 0x0B, 0x00, 0x00, 0x00, 0x08, 0x00, 0x00, 0x00, 0x17, 0x00, 0x00, 0x00, 0x01, 0x00, 0x00, 0x00, 0x00,
+      0x00, 0x00, 0x00, 0x06, 0x40, 0xA1, 0x3C, 0x54, 0xE6, 0x8D, 0x01, 0x00, 0x01, 0x00, 0x28, 0x00, 0x00, 0x00, 0x04, 0x00, 0x0A,
+      0x01, 0x00, 0x00, 0x00, 0x00, 0x80}},
+    {"R7", 64, 10, 1, {1, 0}, 1, {0x3FF8000000000000}, 25,
      {0x01, 0x00, 0x00, 0x0A, 0x01, 0x00, 0x00, 0x00, 0x04, 0x00, 0x00, 0x00, 0x01, 0x00, 0x00, 0x00, 0x0F, 0x00, 0x00, 0x00, 0x00,
       0x00, 0x00, 0x00, 0x00}},
-    {"specials", 64, 3, {1, 0}, 6,
+    {"specials", 64, 3, 1, {1, 0}, 6,
      {0x8000000000000000, 0xFFF123456789ABCD, 0x7FF0000000000000, 0xFFF0000000000000, 0x3FF8000000000000, 0x0000000000000001}, 75,
      {0x01, 0x00, 0x00, 0x03, 0x06, 0x00, 0x00, 0x00, 0x04, 0x00, 0x00, 0x00, 0x01, 0x00, 0x05, 0x00, 0x0F, 0x00, 0x00, 0x00, 0x00,
       0x00, 0x00, 0x00, 0x00, 0x00, 0x00, 0x01, 0x00, 0x02, 0x00, 0x03, 0x00, 0x05, 0x00, 0x00, 0x00, 0x00, 0x00, 0x00, 0x00, 0x00,
       0x80, 0xCD, 0xAB, 0x89, 0x67, 0x45, 0x23, 0xF1, 0xFF, 0x00, 0x00, 0x00, 0x00, 0x00, 0x00, 0xF0, 0x7F, 0x00, 0x00, 0x00, 0x00,
-      0x00, 0x00, 0xF0, 0xFF, 0x01, 0x00, 0x00, 0x00, 0x00, 0x00, 0x00, 0x00}}};
+      0x00, 0x00, 0xF0, 0xFF, 0x01, 0x00, 0x00, 0x00, 0x00, 0x00, 0x00, 0x00}},
+    {"halves", 64, 3, 2, {1, 0, 1, 0}, 11,
+     {0x0000000000000000, 0x3FE0000000000000, 0x3FF0000000000000, 0x3FF8000000000000, 0x4000000000000000, 0x4004000000000000,
+      0x4008000000000000, 0x400C000000000000, 0x4010000000000000, 0x8000000000000000, 0x4014000000000000}, 60,
+     {0x01, 0x00, 0x00, 0x03, 0x0B, 0x00, 0x00, 0x00, 0x08, 0x00, 0x00, 0x00, 0x1B, 0x00, 0x00, 0x00, 0x01, 0x00, 0x00, 0x00, 0x00,
+      0x00, 0x00, 0x00, 0x00, 0x00, 0x00, 0x00, 0x06, 0x40, 0xA1, 0x3C, 0x54, 0xE6, 0x8D, 0x01, 0x00, 0x01, 0x00, 0x28, 0x00, 0x00,
+      0x00, 0x00, 0x00, 0x00, 0x00, 0x04, 0x00, 0x0A, 0x01, 0x00, 0x00, 0x00, 0x00, 0x00, 0x00, 0x00, 0x00, 0x80}}};
 
 /* Tenths and hundredths whose way there and back rounds to nearest; rounded upward some come back with other bits. */
 static const double hundredths[] = {0.1, 0.7, 1.23, 4.56, 7.89, 0.29, 1.1, 2.2};
@@ -99,6 +116,12 @@ static void show(const recording *r, const char *what)
     shown++;
 }
 
+static void show_vector(const recording *r, size_t number, size_t count, const char *what)
+{
+    printf("%s, %d-bit, vector %lu, count %lu: %s\n", r->name, r->bits, (unsigned long)number, (unsigned long)count, what);
+    shown++;
+}
+
 /* ---- one call for both kinds ---- */
 
 static void narrow(const recording *r, uint32_t *values)
@@ -110,18 +133,18 @@ static void narrow(const recording *r, uint32_t *values)
 
 static strahnuk_answer measured(const recording *r)
 {
-    uint32_t values[8];
+    uint32_t values[MOST_VALUES];
     narrow(r, values);
-    return r->bits == 32 ? alp_measure32(values, r->count, r->s, r->pair, sizeof r->pair)
-                         : alp_measure64(r->values, r->count, r->s, r->pair, sizeof r->pair);
+    return r->bits == 32 ? alp_measure32(values, r->count, r->s, r->pairs, 2 * r->vectors)
+                         : alp_measure64(r->values, r->count, r->s, r->pairs, 2 * r->vectors);
 }
 
 static strahnuk_answer written(const recording *r, uint8_t *out, size_t length)
 {
-    uint32_t values[8];
+    uint32_t values[MOST_VALUES];
     narrow(r, values);
-    return r->bits == 32 ? alp_write32(values, r->count, r->s, r->pair, sizeof r->pair, out, length)
-                         : alp_write64(r->values, r->count, r->s, r->pair, sizeof r->pair, out, length);
+    return r->bits == 32 ? alp_write32(values, r->count, r->s, r->pairs, 2 * r->vectors, out, length)
+                         : alp_write64(r->values, r->count, r->s, r->pairs, 2 * r->vectors, out, length);
 }
 
 static strahnuk_answer examined(const recording *r, const uint8_t *page, size_t length)
@@ -129,8 +152,10 @@ static strahnuk_answer examined(const recording *r, const uint8_t *page, size_t 
     return r->bits == 32 ? alp_examine32(page, length) : alp_examine64(page, length);
 }
 
-/* Reads into the first `length` of ROOM lent values, and gives all ROOM in 64 bits. */
-static strahnuk_answer got(const recording *r, const uint8_t *page, size_t page_length, uint64_t *out, size_t length)
+/* Reads the page, or where `number` is not NULL that vector alone, into the first `length` of ROOM lent values, and gives all ROOM in 64
+   bits. */
+static strahnuk_answer got(const recording *r, const uint8_t *page, size_t page_length, const size_t *number, uint64_t *out,
+                           size_t length)
 {
     uint32_t values[ROOM];
     strahnuk_answer answer;
@@ -138,8 +163,8 @@ static strahnuk_answer got(const recording *r, const uint8_t *page, size_t page_
     memset(values, UNTOUCHED_BYTE, sizeof values);
     memset(out, UNTOUCHED_BYTE, ROOM * sizeof *out);
     if (r->bits == 64)
-        return alp_read64(page, page_length, out, length);
-    answer = alp_read32(page, page_length, values, length);
+        return number ? alp_read_vector64(page, page_length, *number, out, length) : alp_read64(page, page_length, out, length);
+    answer = number ? alp_read_vector32(page, page_length, *number, values, length) : alp_read32(page, page_length, values, length);
     for (i = 0; i < ROOM; i++)
         out[i] = values[i];
     return answer;
@@ -162,14 +187,34 @@ static int untouched_values(const recording *r, const uint64_t *from, const uint
     return 1;
 }
 
+/* Reading gives `count` values, those from `first` on, and what lies past them stays. */
+static void expect_values(const recording *r, const uint8_t *page, const size_t *number, size_t first, size_t count, const char *what)
+{
+    uint64_t values[ROOM];
+    size_t i;
+    expect_answer(got(r, page, r->length, number, values, ROOM), STRAHNUK_DONE, 0, count, r, what);
+    for (i = 0; i < count; i++)
+        expect(values[i] == r->values[first + i], r, "a value comes back with other bits");
+    expect(untouched_values(r, values + count, values + ROOM), r, "a value past those read was changed");
+}
+
+/* Reading into `room` values is refused with this row and vector, and the output stays. */
+static void expect_unread(const recording *r, const uint8_t *page, size_t page_length, const size_t *number, size_t room, uint64_t row,
+                          uint64_t vector, const char *what)
+{
+    uint64_t values[ROOM];
+    expect_answer(got(r, page, page_length, number, values, room), row, vector, 0, r, what);
+    expect(untouched_values(r, values, values + ROOM), r, "a refused read changed the output");
+}
+
 /* ---- the story ---- */
 
 static size_t tell_written(const recording *r, uint8_t *page)
 {
     char line[3 * ROOM + 80];
     size_t metadata = r->bits == 32 ? 9 : 13, i, at;
-    /* one vector each, so this is document 01's bound */
-    size_t room = 8 + (4 + metadata) + r->count * (size_t)(2 * r->bits / 8 + 2);
+    /* document 01's bound */
+    size_t room = 8 + r->vectors * (4 + metadata) + r->count * (size_t)(2 * r->bits / 8 + 2);
     expect_answer(measured(r), STRAHNUK_DONE, 0, room, r, "measure");
 
     memset(page, UNTOUCHED_BYTE, ROOM);
@@ -190,34 +235,58 @@ static size_t tell_written(const recording *r, uint8_t *page)
 
 static void tell_read(const recording *r, const uint8_t *page)
 {
-    uint64_t values[ROOM];
-    size_t i;
     expect_answer(examined(r, page, r->length), STRAHNUK_DONE, 0, r->count, r, "examine");
     show(r, "examined, it is a page");
-    expect_answer(got(r, page, r->length, values, ROOM), STRAHNUK_DONE, 0, r->count, r, "read");
-    for (i = 0; i < r->count; i++)
-        expect(values[i] == r->values[i], r, "a value comes back with other bits");
-    expect(untouched_values(r, values + r->count, values + ROOM), r, "a value past the column was changed");
+    expect_values(r, page, NULL, 0, r->count, "read");
     show(r, "every bit comes back, and what lies past the page and the column stays");
+}
+
+/* Offsets here are below 256, so each is changed by its first byte. */
+static void tell_vector(const recording *r, const uint8_t *page, size_t number)
+{
+    uint8_t changed[ROOM];
+    const size_t full = (size_t)1 << r->s, first = number * full, left = r->count - first, count = left < full ? left : full;
+    const size_t last = number + 1 == r->vectors;
+    expect_values(r, page, &number, first, count, "read vector");
+    show_vector(r, number, count, "every bit comes back, and what lies past it stays");
+    expect_unread(r, page, r->length, &number, count - 1, STRAHNUK_OUTPUT_TOO_SHORT, 0, "read vector with room one value short");
+    show_vector(r, number, count, "15, the lent output is too short, by one value; the output stays");
+
+    memcpy(changed, page, ROOM);
+    changed[8 + 4 * number] = (uint8_t)(4 * r->vectors - 1);
+    expect_unread(r, changed, r->length, &number, ROOM, STRAHNUK_OFFSET, number, "read vector with its start inside the offsets");
+    memcpy(changed, page, ROOM);
+    if (!last)
+        changed[8 + 4 * (number + 1)]++;
+    expect_unread(r, changed, r->length + last, &number, ROOM, STRAHNUK_OFFSET, number, "read vector with a byte behind it");
+    show_vector(r, number, count, "8, an offset differs from the layout's, at its start or at its end; the output stays");
+}
+
+static void tell_vectors(const recording *r, const uint8_t *page)
+{
+    const size_t none[] = {r->vectors, SIZE_MAX};
+    size_t i;
+    for (i = 0; i < r->vectors; i++)
+        tell_vector(r, page, i);
+    for (i = 0; i < COUNT(none); i++)
+        expect_unread(r, page, r->length, &none[i], ROOM, STRAHNUK_NO_SUCH_VECTOR, 0, "read vector that is not there");
+    show(r, "30, there is no vector of that number, behind the last; the output stays");
 }
 
 static void tell_refused(const recording *r, const uint8_t *page, size_t room)
 {
     uint8_t longer[ROOM], out[ROOM];
-    uint64_t values[ROOM];
     memset(out, UNTOUCHED_BYTE, ROOM);
     expect_answer(written(r, out, room - 1), STRAHNUK_OUTPUT_TOO_SHORT, 0, 0, r, "write with room one byte short");
     expect(untouched_bytes(out, out + ROOM), r, "a refused write changed the output");
     expect_answer(written(r, out, room), STRAHNUK_DONE, 0, r->length, r, "write with the very room measured");
-    expect_answer(got(r, page, r->length, values, r->count - 1), STRAHNUK_OUTPUT_TOO_SHORT, 0, 0, r, "read with room one value short");
-    expect(untouched_values(r, values, values + ROOM), r, "a refused read changed the output");
+    expect_unread(r, page, r->length, NULL, r->count - 1, STRAHNUK_OUTPUT_TOO_SHORT, 0, "read with room one value short");
     show(r, "15, the lent output is too short, by one byte or one value; the output stays");
 
     memcpy(longer, page, r->length);
     longer[r->length] = 0;
     expect_answer(examined(r, longer, r->length + 1), STRAHNUK_BYTES_AFTER, 0, 0, r, "examine with one byte more");
-    expect_answer(got(r, longer, r->length + 1, values, ROOM), STRAHNUK_BYTES_AFTER, 0, 0, r, "read with one byte more");
-    expect(untouched_values(r, values, values + ROOM), r, "a refused read changed the output");
+    expect_unread(r, longer, r->length + 1, NULL, ROOM, STRAHNUK_BYTES_AFTER, 0, "read with one byte more");
     show(r, "14, bytes after the last vector, by one byte; the output stays");
 }
 
@@ -225,7 +294,7 @@ static void tell_refused(const recording *r, const uint8_t *page, size_t room)
 static void tell_empty(int bits)
 {
     static const uint8_t header[8] = {0x01, 0x00, 0x00, 0x0A, 0x00, 0x00, 0x00, 0x00};
-    recording none = {"nothing", 0, 10, {0, 0}, 0, {0}, 0, {0}};
+    recording none = {"nothing", 0, 10, 0, {0}, 0, {0}, 0, {0}};
     uint8_t page[ROOM];
     none.bits = bits;
     memset(page, UNTOUCHED_BYTE, ROOM);
@@ -240,8 +309,13 @@ static void tell_empty(int bits)
     expect_answer(bits == 32 ? alp_read32(page, 8, NULL, 0) : alp_read64(page, 8, NULL, 0), STRAHNUK_DONE, 0, 0, &none, "read");
     expect_answer(examined(&none, page, 8), STRAHNUK_DONE, 0, 0, &none, "examine");
     show(&none, "no values give the header alone, and come back");
+    expect_answer(bits == 32 ? alp_read_vector32(page, 8, 0, NULL, 0) : alp_read_vector64(page, 8, 0, NULL, 0),
+                  STRAHNUK_NO_SUCH_VECTOR, 0, 0, &none, "read vector");
+    show(&none, "30, there is no vector of that number, not even 0");
     expect_answer(examined(&none, NULL, 0), STRAHNUK_FEW_BYTES, 0, 0, &none, "examine");
     expect_answer(bits == 32 ? alp_read32(NULL, 0, NULL, 0) : alp_read64(NULL, 0, NULL, 0), STRAHNUK_FEW_BYTES, 0, 0, &none, "read");
+    expect_answer(bits == 32 ? alp_read_vector32(NULL, 0, 0, NULL, 0) : alp_read_vector64(NULL, 0, 0, NULL, 0),
+                  STRAHNUK_FEW_BYTES, 0, 0, &none, "read vector");
     show(&none, "1, fewer than 8 bytes");
 }
 
@@ -255,23 +329,24 @@ static int rounds_upward(void)
 
 static void tell_floats(const recording *r)
 {
-    uint64_t values[COUNT(hundredths)], back[COUNT(hundredths)];
+    uint64_t values[COUNT(hundredths)], back[COUNT(hundredths)], alone[COUNT(hundredths)];
     uint8_t plain[ROOM], upward[ROOM];
-    strahnuk_answer first, second, third;
+    strahnuk_answer first, second, third, fourth;
     int rounding, traps;
     uint32_t was;
     memcpy(values, hundredths, sizeof values);
     memset(plain, UNTOUCHED_BYTE, ROOM);
     memset(upward, UNTOUCHED_BYTE, ROOM);
-    first = alp_write64(values, COUNT(values), 3, r->pair, 2, plain, ROOM);
+    first = alp_write64(values, COUNT(values), 3, r->pairs, 2, plain, ROOM);
 
     expect(!rounds_upward(), r, "the program does not start with rounding to nearest");
     expect(fesetround(FE_UPWARD) == 0 && rounds_upward(), r, "upward rounding can't be set");
     feclearexcept(FE_ALL_EXCEPT);
     expect(feenableexcept(FE_ALL_EXCEPT) != -1, r, "traps can't be set");
     was = strahnuk_floats_plain();
-    second = alp_write64(values, COUNT(values), 3, r->pair, 2, upward, ROOM);
+    second = alp_write64(values, COUNT(values), 3, r->pairs, 2, upward, ROOM);
     third = alp_read64(upward, (size_t)second.place, back, COUNT(back));
+    fourth = alp_read_vector64(upward, (size_t)second.place, 0, alone, COUNT(alone));
     strahnuk_floats_restore(was);
     rounding = fegetround();
     traps = fegetexcept();
@@ -283,7 +358,8 @@ static void tell_floats(const recording *r)
     expect(first.number == STRAHNUK_DONE && first.place > 8 && second.place == first.place, r, "the pages differ in length");
     expect(memcmp(plain, upward, ROOM) == 0, r, "the pages differ");
     expect_answer(third, STRAHNUK_DONE, 0, COUNT(values), r, "read");
-    expect(memcmp(values, back, sizeof values) == 0, r, "a value comes back with other bits");
+    expect_answer(fourth, STRAHNUK_DONE, 0, COUNT(values), r, "read vector");
+    expect(memcmp(values, back, sizeof values) == 0 && memcmp(values, alone, sizeof values) == 0, r, "a value comes back with other bits");
     show(r, "upward rounding and traps of the host change no byte, and stand afterwards");
 }
 
@@ -301,12 +377,13 @@ static void tell_sentences(void)
 
 int main(void)
 {
-    static const recording floats = {"floats", 64, 3, {2, 0}, 0, {0}, 0, {0}};
+    static const recording floats = {"floats", 64, 3, 1, {2, 0}, 0, {0}, 0, {0}};
     uint8_t page[ROOM];
     size_t i, room;
     for (i = 0; i < COUNT(recordings); i++) {
         room = tell_written(&recordings[i], page);
         tell_read(&recordings[i], page);
+        tell_vectors(&recordings[i], page);
         tell_refused(&recordings[i], page, room);
     }
     tell_empty(32);

@@ -1,6 +1,7 @@
 //! Tells the story of link/recording.c through the wrapper, in the same words: recorded columns of both kinds are measured, written,
-//! examined and read, refusals come where they should, and the host's floating-point environment changes nothing. Every byte and every
-//! bit is compared with what stands written here; the first thing that fails ends the program. link/run compares the two programs' lines.
+//! examined and read, whole and by the vector, refusals come where they should, and the host's floating-point environment changes nothing.
+//! Every byte and every bit is compared with what stands written here; the first thing that fails ends the program. link/run compares the
+//! two programs' lines.
 use std::arch::asm;
 use std::fmt::Debug;
 use strahnuk::*;
@@ -9,7 +10,8 @@ use strahnuk::*;
 struct Recording<B> {
     name: &'static str,
     s: u8,
-    pair: Pair,
+    /// One for each vector.
+    pairs: Vec<Pair>,
     values: Vec<B>,
     page: &'static str,
 }
@@ -25,6 +27,7 @@ struct Kind<B> {
     measure: fn(&[B], u8, &[Pair]) -> Outcome,
     write_into: fn(&[B], u8, &[Pair], &mut [u8]) -> Outcome,
     read_into: fn(&[u8], &mut [B]) -> Outcome,
+    read_vector_into: fn(&[u8], usize, &mut [B]) -> Outcome,
     examine: fn(&[u8]) -> Outcome,
 }
 
@@ -35,6 +38,7 @@ const SINGLE: Kind<u32> = Kind {
     measure: measure32,
     write_into: write_into32,
     read_into: read_into32,
+    read_vector_into: read_vector_into32,
     examine: examine32,
 };
 
@@ -45,6 +49,7 @@ const DOUBLE: Kind<u64> = Kind {
     measure: measure64,
     write_into: write_into64,
     read_into: read_into64,
+    read_vector_into: read_vector_into64,
     examine: examine64,
 };
 
@@ -54,6 +59,45 @@ const UNTOUCHED: u8 = 0xA5;
 
 fn refused(row: Row) -> Outcome {
     Err(Refusal { row, vector: 0, place: 0 })
+}
+
+impl<B: Copy + PartialEq + Debug> Kind<B> {
+    /// Reads the page, or that vector alone.
+    fn read(&self, page: &[u8], number: Option<usize>, out: &mut [B]) -> Outcome {
+        match number {
+            None => (self.read_into)(page, out),
+            Some(number) => (self.read_vector_into)(page, number, out),
+        }
+    }
+
+    /// Reading gives these values, and what lies past them stays.
+    #[track_caller]
+    fn expect_values(&self, page: &[u8], number: Option<usize>, values: &[B], name: &str) {
+        let mut out = vec![self.mark; ROOM];
+        assert_eq!(self.read(page, number, &mut out), Ok(values.len()), "{}: read", name);
+        let (back, rest) = out.split_at(values.len());
+        assert_eq!(back, values, "{}: a value comes back with other bits", name);
+        assert!(
+            rest.iter().all(|&value| value == self.mark),
+            "{}: a value past those read was changed",
+            name
+        );
+    }
+
+    /// Reading into `room` values is refused so, and the output stays.
+    #[track_caller]
+    fn expect_unread(
+        &self,
+        page: &[u8],
+        number: Option<usize>,
+        room: usize,
+        expected: Outcome,
+        name: &str,
+    ) {
+        let mut out = vec![self.mark; ROOM];
+        assert_eq!(self.read(page, number, &mut out[..room]), expected, "{}: read", name);
+        assert_eq!(out, vec![self.mark; ROOM], "{}: a refused read changed the output", name);
+    }
 }
 
 fn hexadecimal(bytes: &[u8]) -> String {
@@ -72,9 +116,15 @@ impl Teller {
         self.shown += 1;
     }
 
+    fn show_vector(&mut self, name: &str, bits: usize, number: usize, count: usize, what: &str) {
+        println!("{}, {}-bit, vector {}, count {}: {}", name, bits, number, count, what);
+        self.shown += 1;
+    }
+
     fn tell<B: Copy + PartialEq + Debug>(&mut self, kind: &Kind<B>, recording: &Recording<B>) {
         let (page, room) = self.tell_written(kind, recording);
         self.tell_read(kind, recording, &page);
+        self.tell_vectors(kind, recording, &page);
         self.tell_refused(kind, recording, &page, room);
     }
 
@@ -83,13 +133,13 @@ impl Teller {
         kind: &Kind<B>,
         recording: &Recording<B>,
     ) -> (Vec<u8>, usize) {
-        let Recording { name, s, pair, ref values, page } = *recording;
-        // One vector each, so this is document 01's bound.
-        let room = 8 + (4 + kind.metadata) + values.len() * (2 * kind.bits / 8 + 2);
-        assert_eq!((kind.measure)(values, s, &[pair]), Ok(room), "{}: measure", name);
+        let Recording { name, s, ref pairs, ref values, page } = *recording;
+        // Document 01's bound.
+        let room = 8 + pairs.len() * (4 + kind.metadata) + values.len() * (2 * kind.bits / 8 + 2);
+        assert_eq!((kind.measure)(values, s, pairs), Ok(room), "{}: measure", name);
 
         let mut out = vec![UNTOUCHED; ROOM];
-        let length = (kind.write_into)(values, s, &[pair], &mut out).expect(name);
+        let length = (kind.write_into)(values, s, pairs, &mut out).expect(name);
         assert_eq!(hexadecimal(&out[..length]), page, "{}: write", name);
         assert!(
             out[length..].iter().all(|&byte| byte == UNTOUCHED),
@@ -117,18 +167,64 @@ impl Teller {
         let Recording { name, ref values, .. } = *recording;
         assert_eq!((kind.examine)(page), Ok(values.len()), "{}: examine", name);
         self.show(name, kind.bits, "examined, it is a page");
-        let mut out = vec![kind.mark; ROOM];
-        assert_eq!((kind.read_into)(page, &mut out), Ok(values.len()), "{}: read", name);
-        assert_eq!(out[..values.len()], values[..], "{}: a value comes back with other bits", name);
-        assert!(
-            out[values.len()..].iter().all(|&value| value == kind.mark),
-            "{}: a value past the column was changed",
-            name
-        );
+        kind.expect_values(page, None, values, name);
         self.show(
             name,
             kind.bits,
             "every bit comes back, and what lies past the page and the column stays",
+        );
+    }
+
+    fn tell_vectors<B: Copy + PartialEq + Debug>(
+        &mut self,
+        kind: &Kind<B>,
+        recording: &Recording<B>,
+        page: &[u8],
+    ) {
+        let Recording { name, ref pairs, .. } = *recording;
+        for number in 0..pairs.len() {
+            self.tell_vector(kind, recording, page, number);
+        }
+        for number in [pairs.len(), usize::MAX] {
+            kind.expect_unread(page, Some(number), ROOM, refused(Row::NoSuchVector), name);
+        }
+        self.show(
+            name,
+            kind.bits,
+            "30, there is no vector of that number, behind the last; the output stays",
+        );
+    }
+
+    /// Offsets here are below 256, so each is changed by its first byte.
+    fn tell_vector<B: Copy + PartialEq + Debug>(
+        &mut self,
+        kind: &Kind<B>,
+        recording: &Recording<B>,
+        page: &[u8],
+        number: usize,
+    ) {
+        let Recording { name, s, ref pairs, ref values, .. } = *recording;
+        let stretch = values.chunks(1 << s).nth(number).expect(name);
+        let (alone, count) = (Some(number), stretch.len());
+        let mut show = |what: &str| self.show_vector(name, kind.bits, number, count, what);
+        kind.expect_values(page, alone, stretch, name);
+        show("every bit comes back, and what lies past it stays");
+        kind.expect_unread(page, alone, count - 1, refused(Row::OutputTooShort), name);
+        show("15, the lent output is too short, by one value; the output stays");
+
+        let elsewhere = Err(Refusal { row: Row::Offset, vector: number as u64, place: 0 });
+        let mut changed = page.to_vec();
+        changed[8 + 4 * number] = 4 * pairs.len() as u8 - 1;
+        kind.expect_unread(&changed, alone, ROOM, elsewhere, name);
+        let mut changed = page.to_vec();
+        if number + 1 == pairs.len() {
+            changed.push(0);
+        } else {
+            changed[8 + 4 * (number + 1)] += 1;
+        }
+        kind.expect_unread(&changed, alone, ROOM, elsewhere, name);
+        show(
+            "8, an offset differs from the layout's, at its start or at its end; the output stays",
         );
     }
 
@@ -139,27 +235,19 @@ impl Teller {
         page: &[u8],
         room: usize,
     ) {
-        let Recording { name, s, pair, ref values, .. } = *recording;
+        let Recording { name, s, ref pairs, ref values, .. } = *recording;
         let mut out = vec![UNTOUCHED; room];
-        let short = (kind.write_into)(values, s, &[pair], &mut out[..room - 1]);
+        let short = (kind.write_into)(values, s, pairs, &mut out[..room - 1]);
         assert_eq!(short, refused(Row::OutputTooShort), "{}: write with room one byte short", name);
         assert_eq!(out, vec![UNTOUCHED; room], "{}: a refused write changed the output", name);
         assert_eq!(
-            (kind.write_into)(values, s, &[pair], &mut out),
+            (kind.write_into)(values, s, pairs, &mut out),
             Ok(page.len()),
             "{}: write with the room measured",
             name
         );
 
-        let mut back = vec![kind.mark; values.len()];
-        let short = (kind.read_into)(page, &mut back[..values.len() - 1]);
-        assert_eq!(short, refused(Row::OutputTooShort), "{}: read with room one value short", name);
-        assert_eq!(
-            back,
-            vec![kind.mark; values.len()],
-            "{}: a refused read changed the output",
-            name
-        );
+        kind.expect_unread(page, None, values.len() - 1, refused(Row::OutputTooShort), name);
         self.show(
             name,
             kind.bits,
@@ -173,18 +261,7 @@ impl Teller {
             "{}: examine with one byte more",
             name
         );
-        assert_eq!(
-            (kind.read_into)(&longer, &mut back),
-            refused(Row::BytesAfter),
-            "{}: read with one byte more",
-            name
-        );
-        assert_eq!(
-            back,
-            vec![kind.mark; values.len()],
-            "{}: a refused read changed the output",
-            name
-        );
+        kind.expect_unread(&longer, None, ROOM, refused(Row::BytesAfter), name);
         self.show(
             name,
             kind.bits,
@@ -205,8 +282,11 @@ impl Teller {
         assert_eq!((kind.read_into)(&page[..8], &mut []), Ok(0));
         assert_eq!((kind.examine)(&page[..8]), Ok(0));
         self.show("nothing", kind.bits, "no values give the header alone, and come back");
+        assert_eq!((kind.read_vector_into)(&page[..8], 0, &mut []), refused(Row::NoSuchVector));
+        self.show("nothing", kind.bits, "30, there is no vector of that number, not even 0");
         assert_eq!((kind.examine)(&[]), refused(Row::FewBytes));
         assert_eq!((kind.read_into)(&[], &mut []), refused(Row::FewBytes));
+        assert_eq!((kind.read_vector_into)(&[], 0, &mut []), refused(Row::FewBytes));
         self.show("nothing", kind.bits, "1, fewer than 8 bytes");
     }
 
@@ -214,11 +294,12 @@ impl Teller {
         const UPWARD_WITH_TRAPS: u32 = 0x4000;
         let column = [0.1, 0.7, 1.23, 4.56, 7.89, 0.29, 1.1, 2.2].map(f64::to_bits);
         let pairs = [Pair { exponent: 2, factor: 0 }];
-        let (mut page, mut back) = ([UNTOUCHED; ROOM], [0; 8]);
+        let (mut page, mut back, mut alone) = ([UNTOUCHED; ROOM], [0; 8], [0; 8]);
         let plain = write64(&column, 3, &pairs).expect("floats");
         let was = exchange_mxcsr(UPWARD_WITH_TRAPS);
         let written = write_into64(&column, 3, &pairs, &mut page);
         let read = read_into64(&page[..written.unwrap_or(0)], &mut back);
+        let vector = read_vector_into64(&page[..written.unwrap_or(0)], 0, &mut alone);
         let left = exchange_mxcsr(was);
         assert_eq!(
             left, UPWARD_WITH_TRAPS,
@@ -226,8 +307,8 @@ impl Teller {
         );
         assert_eq!(written, Ok(plain.len()));
         assert_eq!(page[..plain.len()], plain, "the pages differ");
-        assert_eq!(read, Ok(column.len()));
-        assert_eq!(back, column, "a value comes back with other bits");
+        assert_eq!((read, vector), (Ok(column.len()), Ok(column.len())));
+        assert_eq!((back, alone), (column, column), "a value comes back with other bits");
         self.show(
             "floats",
             64,
@@ -255,48 +336,59 @@ fn exchange_mxcsr(value: u32) -> u32 {
     was
 }
 
-/// R1, R2, and negative zero, a NaN with a payload, both infinities, 1.5 and the smallest subnormal: all but 1.5 are exceptions.
-fn singles() -> [Recording<u32>; 3] {
+/// 0.0 to 5.0 by halves, but for a negative zero in the second of two vectors.
+const HALVES: [f32; 11] = [0.0, 0.5, 1.0, 1.5, 2.0, 2.5, 3.0, 3.5, 4.0, -0.0, 5.0];
+
+/// R1, R2; negative zero, a NaN with a payload, both infinities, 1.5 and the smallest subnormal, all but 1.5 exceptions; and halves.
+fn singles() -> [Recording<u32>; 4] {
     [
         Recording {
             name: "R1",
             s: 10,
-            pair: Pair { exponent: 2, factor: 0 },
+            pairs: vec![Pair { exponent: 2, factor: 0 }],
             values: [1.23_f32, 4.56, 7.89, 0.12].map(f32::to_bits).to_vec(),
             page: "01 00 00 0A 04 00 00 00 04 00 00 00 02 00 00 00 0C 00 00 00 0A 6F F0 96 30 00",
         },
         Recording {
             name: "R2",
             s: 10,
-            pair: Pair { exponent: 1, factor: 0 },
+            pairs: vec![Pair { exponent: 1, factor: 0 }],
             values: vec![0x3FC0_0000, 0x7FC0_0000, 0x4020_0000, 0x3EAA_AAAB],
             page: "01 00 00 0A 04 00 00 00 04 00 00 00 01 00 02 00 0F 00 00 00 04 00 0A 01 00 03 00 00 00 C0 7F AB AA AA 3E",
         },
         Recording {
             name: "specials",
             s: 3,
-            pair: Pair { exponent: 1, factor: 0 },
+            pairs: vec![Pair { exponent: 1, factor: 0 }],
             values: vec![0x8000_0000, 0x7FA1_2345, 0x7F80_0000, 0xFF80_0000, 0x3FC0_0000, 0x0000_0001],
             page: "01 00 00 03 06 00 00 00 04 00 00 00 01 00 05 00 0F 00 00 00 00 00 00 01 00 02 00 03 00 05 00 \
                    00 00 00 80 45 23 A1 7F 00 00 80 7F 00 00 80 FF 01 00 00 00",
         },
+        Recording {
+            name: "halves",
+            s: 3,
+            pairs: vec![Pair { exponent: 1, factor: 0 }; 2],
+            values: HALVES.map(f32::to_bits).to_vec(),
+            page: "01 00 00 03 0B 00 00 00 08 00 00 00 17 00 00 00 01 00 00 00 00 00 00 00 06 40 A1 3C 54 E6 8D \
+                   01 00 01 00 28 00 00 00 04 00 0A 01 00 00 00 00 80",
+        },
     ]
 }
 
-/// R7, and the same special values in 64 bits.
-fn doubles() -> [Recording<u64>; 2] {
+/// R7, and the same special values and halves in 64 bits.
+fn doubles() -> [Recording<u64>; 3] {
     [
         Recording {
             name: "R7",
             s: 10,
-            pair: Pair { exponent: 1, factor: 0 },
+            pairs: vec![Pair { exponent: 1, factor: 0 }],
             values: vec![1.5_f64.to_bits()],
             page: "01 00 00 0A 01 00 00 00 04 00 00 00 01 00 00 00 0F 00 00 00 00 00 00 00 00",
         },
         Recording {
             name: "specials",
             s: 3,
-            pair: Pair { exponent: 1, factor: 0 },
+            pairs: vec![Pair { exponent: 1, factor: 0 }],
             values: vec![
                 0x8000_0000_0000_0000,
                 0xFFF1_2345_6789_ABCD,
@@ -308,6 +400,14 @@ fn doubles() -> [Recording<u64>; 2] {
             page: "01 00 00 03 06 00 00 00 04 00 00 00 01 00 05 00 0F 00 00 00 00 00 00 00 00 00 00 01 00 02 00 03 00 05 00 \
                    00 00 00 00 00 00 00 80 CD AB 89 67 45 23 F1 FF 00 00 00 00 00 00 F0 7F 00 00 00 00 00 00 F0 FF \
                    01 00 00 00 00 00 00 00",
+        },
+        Recording {
+            name: "halves",
+            s: 3,
+            pairs: vec![Pair { exponent: 1, factor: 0 }; 2],
+            values: HALVES.map(|value| f64::from(value).to_bits()).to_vec(),
+            page: "01 00 00 03 0B 00 00 00 08 00 00 00 1B 00 00 00 01 00 00 00 00 00 00 00 00 00 00 00 06 40 A1 3C 54 E6 8D \
+                   01 00 01 00 28 00 00 00 00 00 00 00 04 00 0A 01 00 00 00 00 00 00 00 00 80",
         },
     ]
 }
