@@ -5,7 +5,7 @@ use std::fmt::Write;
 
 use crate::answer::{Answer, Outcome};
 use crate::columns::column;
-use crate::driver::{split, Program};
+use crate::driver::{split, Program, Running};
 use crate::floats::Kind;
 use crate::forge::forged;
 use crate::frames::{self, value_bytes, Reply, Request, MALFORMED};
@@ -16,6 +16,12 @@ use crate::tally::Tally;
 struct Case {
     origin: String,
     request: Request,
+}
+
+/// Requests that the other program is at work on.
+struct Batch {
+    cases: Vec<Case>,
+    running: Running,
 }
 
 /// How many differences are printed in full, of frames and of cases each.
@@ -40,6 +46,7 @@ pub struct Comparison<'a> {
     earlier: u64,
     waiting: Vec<Case>,
     waiting_bytes: usize,
+    under_way: Option<Batch>,
 }
 
 impl<'a> Comparison<'a> {
@@ -52,6 +59,7 @@ impl<'a> Comparison<'a> {
             earlier: 0,
             waiting: Vec::new(),
             waiting_bytes: 0,
+            under_way: None,
         }
     }
 
@@ -79,7 +87,7 @@ impl<'a> Comparison<'a> {
             self.put(&origin, measure)?;
             self.put(&origin, write)?;
         }
-        self.flush()
+        self.finish()
     }
 
     /// This program must agree with itself: what it wrote comes back, and
@@ -104,7 +112,7 @@ impl<'a> Comparison<'a> {
             self.put(&origin, Request::Read { kind, page: page.clone(), output })?;
             self.put(&origin, Request::Examine { kind, page })?;
         }
-        self.flush()
+        self.finish()
     }
 
     /// Puts a request into the batch.
@@ -117,16 +125,30 @@ impl<'a> Comparison<'a> {
         Ok(())
     }
 
-    /// Puts the batch to both programs at the same time.
+    /// Puts the batch to the other program, and looks at the one before while
+    /// that program is at work.
     fn flush(&mut self) -> Result<(), String> {
         let cases = std::mem::take(&mut self.waiting);
         self.waiting_bytes = 0;
         let requests: Vec<&Request> = cases.iter().map(|case| &case.request).collect();
         let running = self.program.ask(&requests)?;
+        let before = self.under_way.replace(Batch { cases, running });
+        before.map_or(Ok(()), |batch| self.settle(batch))
+    }
+
+    /// Looks at all that was put so far.
+    fn finish(&mut self) -> Result<(), String> {
+        self.flush()?;
+        self.under_way.take().map_or(Ok(()), |batch| self.settle(batch))
+    }
+
+    /// Makes the calls of a batch here, too, and compares.
+    fn settle(&mut self, batch: Batch) -> Result<(), String> {
+        let requests: Vec<&Request> = batch.cases.iter().map(|case| &case.request).collect();
         let own: Vec<(Outcome, Reply)> = requests.iter().map(|r| r.perform()).collect();
-        let bytes = running.finish()?;
+        let bytes = batch.running.finish()?;
         let other = split(&requests, &bytes)?;
-        for ((case, own), other) in cases.iter().zip(&own).zip(&other) {
+        for ((case, own), other) in batch.cases.iter().zip(&own).zip(&other) {
             self.hold(case, own, other.as_ref())?;
         }
         Ok(())

@@ -58,10 +58,10 @@ impl Program {
 
     /// Starts the program on a batch of requests.
     pub fn ask(&self, requests: &[&Request]) -> Result<Running, String> {
-        let input: Vec<u8> = requests.iter().flat_map(|request| request.to_bytes()).collect();
+        let frames: Vec<Vec<u8>> = requests.iter().map(|request| request.to_bytes()).collect();
         let output: usize = requests.iter().map(|r| ANSWER_HEAD + r.output_bytes()).sum();
         // A little more than the answers, to notice a word too many.
-        self.start(input, output + 100)
+        self.start(frames.concat(), output + 100)
     }
 }
 
