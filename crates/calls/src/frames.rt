@@ -27,12 +27,15 @@ pub const MOST_BYTES: usize = 400_000;
 
 pub const MOST_PAIRS: usize = 4_200;
 
+// How long the number of a vector is.
+pub const NUMBER_BYTES: usize = 8;
+
 // A request of a known call and kind.
 fn known(call: u8, kind: u8, zero: u8) -> bool {
     if call < 1 {
         return false;
     }
-    if 4 < call {
+    if 5 < call {
         return false;
     }
     if zero != 0 {

@@ -7,6 +7,10 @@ pub fn pairs_room() -> [u8; 4200] {
     [0; 4200]
 }
 
+pub fn number_room() -> [u8; 8] {
+    [0; 8]
+}
+
 pub fn raw_room32() -> [u8; 65600] {
     [0; 65600]
 }

@@ -2,16 +2,19 @@
 use crate::frames::MOST_BYTES;
 use crate::frames::MOST_PAIRS;
 use crate::frames::MOST_VALUES;
+use crate::frames::NUMBER_BYTES;
 use crate::frames::Request;
 use crate::frames::answer;
 use crate::frames::fill;
 use crate::frames::give;
+use crate::rooms::number_room;
 use crate::rooms::page_room;
 use crate::rooms::pairs_room;
 use crate::rooms::raw_room32;
 use crate::rooms::raw_room64;
 use crate::rooms::values_room32;
 use crate::rooms::values_room64;
+use bits::numbers::read_u64;
 use columns::bytes32;
 use columns::bytes64;
 use columns::words32;
@@ -21,6 +24,8 @@ use examiner::examine64;
 use reader::read32;
 use reader::read64;
 use rules::Answer;
+use vector_reader::read_vector32;
+use vector_reader::read_vector64;
 use writer::measure32;
 use writer::measure64;
 use writer::write32;
@@ -42,8 +47,9 @@ pub fn serve(r: Request) -> bool {
     match call {
         1 => serve_column(r, 0),
         2 => serve_column(r, MOST_BYTES),
-        3 => serve_read(r),
-        _ => serve_examine(r),
+        3 => serve_read(r, 0),
+        4 => serve_examine(r),
+        _ => serve_read(r, NUMBER_BYTES),
     }
 }
 
@@ -161,76 +167,100 @@ fn write_with64(
     true
 }
 
-// ---- read: a page, and an output in values
+// ---- read: a page, the number of a vector in `size` bytes or in none, and an output in values
 
-fn serve_read(r: Request) -> bool {
+fn serve_read(r: Request, size: usize) -> bool
+    requires { ⌜ size ≤ 8 ⌝ }
+{
     let n = r.a;
     let c = r.c;
     if MOST_BYTES < n {
         return bad();
     }
-    if r.b != 0 {
+    if r.b != size {
         return bad();
     }
     if MOST_VALUES < c {
         return bad();
     }
     if r.kind == 32 {
-        page32(n, c)
+        page32(n, size, c)
     } else {
-        page64(n, c)
+        page64(n, size, c)
     }
 }
 
-fn page32(n: usize, c: usize) -> bool
-    requires { ⌜ (n ≤ 400000) × (c ≤ 16400) ⌝ }
+fn page32(n: usize, size: usize, c: usize) -> bool
+    requires { ⌜ (n ≤ 400000) × (size ≤ 8) × (c ≤ 16400) ⌝ }
 {
     let mut page = page_room();
+    let mut number = number_room();
     let mut raw = raw_room32();
     let mut out = values_room32();
-    read_with32(&mut page[0..n], &mut raw[0..4 * c], &mut out[0..c])
+    read_with32(
+        &mut page[0..n],
+        &mut number[0..size],
+        &mut raw[0..4 * c],
+        &mut out[0..c],
+    )
 }
 
-fn page64(n: usize, c: usize) -> bool
-    requires { ⌜ (n ≤ 400000) × (c ≤ 16400) ⌝ }
+fn page64(n: usize, size: usize, c: usize) -> bool
+    requires { ⌜ (n ≤ 400000) × (size ≤ 8) × (c ≤ 16400) ⌝ }
 {
     let mut page = page_room();
+    let mut number = number_room();
     let mut raw = raw_room64();
     let mut out = values_room64();
-    read_with64(&mut page[0..n], &mut raw[0..8 * c], &mut out[0..c])
+    read_with64(
+        &mut page[0..n],
+        &mut number[0..size],
+        &mut raw[0..8 * c],
+        &mut out[0..c],
+    )
 }
 
-fn fill_two(first: &mut [u8], second: &mut [u8]) -> bool {
-    if !fill(first) {
-        return false;
-    }
-    fill(second)
-}
-
-fn read_with32(page: &mut [u8], raw: &mut [u8], out: &mut [u32]) -> bool
+fn read_with32(page: &mut [u8], number: &mut [u8], raw: &mut [u8], out: &mut [u32]) -> bool
     requires { ⌜ 4 * length (now out) ≤ length (now raw) ⌝ }
 {
-    if !fill_two(page, raw) {
+    if !fill_three(page, number, raw) {
         return bad();
     }
     words32(raw, out);
-    answer(read32(page, out));
+    answer(read_by32(page, number, out));
     bytes32(out, raw);
     give(raw);
     true
 }
 
-fn read_with64(page: &mut [u8], raw: &mut [u8], out: &mut [u64]) -> bool
+fn read_with64(page: &mut [u8], number: &mut [u8], raw: &mut [u8], out: &mut [u64]) -> bool
     requires { ⌜ 8 * length (now out) ≤ length (now raw) ⌝ }
 {
-    if !fill_two(page, raw) {
+    if !fill_three(page, number, raw) {
         return bad();
     }
     words64(raw, out);
-    answer(read64(page, out));
+    answer(read_by64(page, number, out));
     bytes64(out, raw);
     give(raw);
     true
+}
+
+// Without a number the whole page, else that vector of it.
+fn read_by32(page: &[u8], number: &[u8], out: &mut [u32]) -> Answer {
+    if number.len() < NUMBER_BYTES {
+        return read32(page, out);
+    }
+    let v = read_u64(number, 0) as usize;
+    read_vector32(page, v, out)
+}
+
+fn read_by64(page: &[u8], number: &[u8], out: &mut [u64]) -> Answer {
+    if number.len() < NUMBER_BYTES {
+        return read64(page, out);
+    }
+    let v = read_u64(number, 0) as usize;
+    read_vector64(page, v, out)
 }
 
 // ---- examine: a page
