@@ -7,9 +7,9 @@
 #include <stdio.h>
 #include <stdlib.h>
 
-enum call { MEASURE = 1, WRITE = 2, READ = 3, EXAMINE = 4 };
+enum call { MEASURE = 1, WRITE = 2, READ = 3, EXAMINE = 4, READ_VECTOR = 5 };
 
-enum { MOST_VALUES = 16400, MOST_BYTES = 400000, MOST_PAIRS = 4200 };
+enum { MOST_VALUES = 16400, MOST_BYTES = 400000, MOST_PAIRS = 4200, NUMBER_BYTES = 8 };
 
 /* A request's numbers: the call, the kind, s, and the three lengths. */
 struct request {
@@ -17,10 +17,10 @@ struct request {
     uint32_t a, b, c;
 };
 
-/* What a request brings, and how many bytes each part has. */
+/* What a request brings, and how many bytes each part has. The middle part is the pairs, or a vector's number. */
 struct parts {
-    void *input, *pairs, *output;
-    size_t input_size, pairs_size, output_size;
+    void *input, *middle, *output;
+    size_t input_size, middle_size, output_size;
 };
 
 static uint32_t number_at(const uint8_t *bytes)
@@ -28,12 +28,24 @@ static uint32_t number_at(const uint8_t *bytes)
     return (uint32_t)bytes[0] | (uint32_t)bytes[1] << 8 | (uint32_t)bytes[2] << 16 | (uint32_t)bytes[3] << 24;
 }
 
+static size_t vector_number(const uint8_t *bytes)
+{
+    return (size_t)number_at(bytes) | (size_t)number_at(bytes + 4) << 32;
+}
+
+/* Whether the output is of values, and not of bytes. */
+static int gives_values(const struct request *r)
+{
+    return r->call == READ || r->call == READ_VECTOR;
+}
+
 /* Whether the shape is one that docs/FRAMES.md allows. */
 static int sound(const struct request *r, uint8_t zero)
 {
-    if (r->call < MEASURE || r->call > EXAMINE || zero != 0 || (r->kind != 32 && r->kind != 64)) return 0;
+    if (r->call < MEASURE || r->call > READ_VECTOR || zero != 0 || (r->kind != 32 && r->kind != 64)) return 0;
     if (r->call <= WRITE) return r->a <= MOST_VALUES && r->b <= MOST_PAIRS && r->c <= (r->call == WRITE ? MOST_BYTES : 0);
-    return r->a <= MOST_BYTES && r->b == 0 && r->c <= (r->call == READ ? MOST_VALUES : 0);
+    if (r->b != (r->call == READ_VECTOR ? NUMBER_BYTES : 0)) return 0;
+    return r->a <= MOST_BYTES && r->c <= (gives_values(r) ? MOST_VALUES : 0);
 }
 
 static int take(void *to, size_t size)
@@ -49,9 +61,10 @@ static int give(const void *from, size_t size)
 static strahnuk_answer answer32(const struct request *r, const struct parts *p)
 {
     switch (r->call) {
-    case MEASURE: return alp_measure32(p->input, r->a, r->s, p->pairs, r->b);
-    case WRITE: return alp_write32(p->input, r->a, r->s, p->pairs, r->b, p->output, r->c);
+    case MEASURE: return alp_measure32(p->input, r->a, r->s, p->middle, r->b);
+    case WRITE: return alp_write32(p->input, r->a, r->s, p->middle, r->b, p->output, r->c);
     case READ: return alp_read32(p->input, r->a, p->output, r->c);
+    case READ_VECTOR: return alp_read_vector32(p->input, r->a, vector_number(p->middle), p->output, r->c);
     default: return alp_examine32(p->input, r->a);
     }
 }
@@ -59,9 +72,10 @@ static strahnuk_answer answer32(const struct request *r, const struct parts *p)
 static strahnuk_answer answer64(const struct request *r, const struct parts *p)
 {
     switch (r->call) {
-    case MEASURE: return alp_measure64(p->input, r->a, r->s, p->pairs, r->b);
-    case WRITE: return alp_write64(p->input, r->a, r->s, p->pairs, r->b, p->output, r->c);
+    case MEASURE: return alp_measure64(p->input, r->a, r->s, p->middle, r->b);
+    case WRITE: return alp_write64(p->input, r->a, r->s, p->middle, r->b, p->output, r->c);
     case READ: return alp_read64(p->input, r->a, p->output, r->c);
+    case READ_VECTOR: return alp_read_vector64(p->input, r->a, vector_number(p->middle), p->output, r->c);
     default: return alp_examine64(p->input, r->a);
     }
 }
@@ -73,17 +87,17 @@ static int serve(const struct request *r)
     struct parts p;
     int done = 0;
     p.input_size = r->call <= WRITE ? r->a * word : r->a;
-    p.pairs_size = r->b;
-    p.output_size = r->call == READ ? r->c * word : r->c;
+    p.middle_size = r->b;
+    p.output_size = gives_values(r) ? r->c * word : r->c;
     p.input = malloc(p.input_size);
-    p.pairs = malloc(p.pairs_size);
+    p.middle = malloc(p.middle_size);
     p.output = malloc(p.output_size);
-    if (take(p.input, p.input_size) && take(p.pairs, p.pairs_size) && take(p.output, p.output_size)) {
+    if (take(p.input, p.input_size) && take(p.middle, p.middle_size) && take(p.output, p.output_size)) {
         const strahnuk_answer answer = r->kind == 32 ? answer32(r, &p) : answer64(r, &p);
         done = give(&answer, sizeof answer) && give(p.output, p.output_size) && fflush(stdout) == 0;
     }
     free(p.input);
-    free(p.pairs);
+    free(p.middle);
     free(p.output);
     return done;
 }
