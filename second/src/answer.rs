@@ -1,18 +1,22 @@
 //! What a call says: done with a count, or a refusal with its row.
 //!
-//! Document 01, "When a call says no". A row that names several reasons is
-//! split here, so that each reason is counted and none goes untried.
+//! Document 01, "When a call says no", and document 02's T-01. A row that
+//! names several reasons is split here, so that each reason is counted and
+//! none goes untried.
 
-/// The four calls. Measuring is the writer's first step, offered by itself.
+/// The five calls. Measuring is the writer's first step, offered by itself;
+/// reading one vector by its number is document 02's T-01.
 #[derive(Clone, Copy, PartialEq, Eq, Debug)]
 pub enum Call {
     Measure,
     Write,
     Read,
     Examine,
+    ReadVector,
 }
 
-pub const CALLS: [Call; 4] = [Call::Measure, Call::Write, Call::Read, Call::Examine];
+pub const CALLS: [Call; 5] =
+    [Call::Measure, Call::Write, Call::Read, Call::Examine, Call::ReadVector];
 
 impl Call {
     pub fn name(self) -> &'static str {
@@ -21,6 +25,7 @@ impl Call {
             Call::Write => "write",
             Call::Read => "read",
             Call::Examine => "examine",
+            Call::ReadVector => "vector",
         }
     }
 }
@@ -38,6 +43,8 @@ pub enum Fault {
     MetadataPastEnd,
     DataPastEnd,
     WrongOffset,
+    StartsTooEarly,
+    EndsElsewhere,
     ExponentAbove,
     FactorAbove,
     TooManyExceptions,
@@ -54,6 +61,7 @@ pub enum Fault {
     NotTheStandIn,
     FrameNotSmallest,
     WidthNotFewest,
+    NoSuchVector,
 }
 
 /// One line of the table: the row, who gives it, and in which words.
@@ -66,10 +74,12 @@ pub struct Line {
     pub of_vector: bool,
 }
 
-const ALL: &[Call] = &[Call::Measure, Call::Write, Call::Read, Call::Examine];
-const PAGE: &[Call] = &[Call::Read, Call::Examine];
+const ALL: &[Call] = &CALLS;
+const PAGE: &[Call] = &[Call::Read, Call::Examine, Call::ReadVector];
+const WHOLE_PAGE: &[Call] = &[Call::Read, Call::Examine];
+const ONE_VECTOR: &[Call] = &[Call::ReadVector];
 const WRITING: &[Call] = &[Call::Measure, Call::Write];
-const OUTPUT: &[Call] = &[Call::Write, Call::Read];
+const OUTPUT: &[Call] = &[Call::Write, Call::Read, Call::ReadVector];
 const EXAMINER: &[Call] = &[Call::Examine];
 
 const fn line(
@@ -82,8 +92,9 @@ const fn line(
     Line { fault, row, text, given_by, of_vector }
 }
 
-/// Document 01's table. "All" there counts the measuring step as the writer's.
-pub const TABLE: [Line; 26] = [
+/// Document 01's table, with T-01's rows. "All" there counts the measuring
+/// step as the writer's.
+pub const TABLE: [Line; 29] = [
     line(Fault::FewBytes, 1, "fewer than 8 bytes", PAGE, false),
     line(Fault::Version, 2, "version not 1", PAGE, false),
     line(Fault::Mode, 3, "mode not 0", PAGE, false),
@@ -93,14 +104,16 @@ pub const TABLE: [Line; 26] = [
     line(Fault::OffsetsPastEnd, 7, "offsets run past the end", PAGE, false),
     line(Fault::MetadataPastEnd, 7, "metadata runs past the end", PAGE, true),
     line(Fault::DataPastEnd, 7, "data runs past the end", PAGE, true),
-    line(Fault::WrongOffset, 8, "an offset differs", PAGE, true),
+    line(Fault::WrongOffset, 8, "an offset differs", WHOLE_PAGE, true),
+    line(Fault::StartsTooEarly, 8, "starts before the offsets' end", ONE_VECTOR, true),
+    line(Fault::EndsElsewhere, 8, "doesn't end where offsets say", ONE_VECTOR, true),
     line(Fault::ExponentAbove, 9, "exponent above E", ALL, true),
     line(Fault::FactorAbove, 10, "factor above exponent", ALL, true),
     line(Fault::TooManyExceptions, 11, "more exceptions than values", PAGE, true),
     line(Fault::WidthAbove, 12, "width above W", PAGE, true),
     line(Fault::PositionTooHigh, 13, "a position not below the count", PAGE, true),
     line(Fault::PositionNotRising, 13, "a position not above the last", PAGE, true),
-    line(Fault::BytesAfter, 14, "bytes after the last vector", PAGE, false),
+    line(Fault::BytesAfter, 14, "bytes after the last vector", WHOLE_PAGE, false),
     line(Fault::OutputTooShort, 15, "lent output too short", OUTPUT, false),
     line(Fault::PairsPerVector, 16, "pairs not one per vector", WRITING, false),
     line(Fault::UnusedBit, 20, "an unused packed bit is 1", EXAMINER, true),
@@ -110,6 +123,7 @@ pub const TABLE: [Line; 26] = [
     line(Fault::NotTheStandIn, 23, "doesn't hold the stand-in", EXAMINER, true),
     line(Fault::FrameNotSmallest, 24, "frame not the smallest", EXAMINER, true),
     line(Fault::WidthNotFewest, 24, "width not the fewest bits", EXAMINER, true),
+    line(Fault::NoSuchVector, 30, "no such vector", ONE_VECTOR, false),
 ];
 
 impl Fault {

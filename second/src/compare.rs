@@ -3,19 +3,24 @@
 
 use std::fmt::Write;
 
-use crate::answer::{Answer, Outcome};
+use crate::answer::{Answer, Call, Outcome};
+use crate::ask::{every, two, worn, Question};
 use crate::columns::column;
 use crate::driver::{split, Program, Running};
-use crate::floats::Kind;
+use crate::floats::{Kind, KINDS};
 use crate::forge::forged;
 use crate::frames::{self, value_bytes, Reply, Request, MALFORMED};
 use crate::random::Random;
+use crate::read::{parse_header, read};
+use crate::read_vector::read_vector;
 use crate::tally::Tally;
 
 /// A request and where it comes from.
 struct Case {
     origin: String,
     request: Request,
+    /// Whether a vector is asked of a page that the reader refuses.
+    faulty: bool,
 }
 
 /// Requests that the other program is at work on.
@@ -35,6 +40,7 @@ const BATCH_BYTES: usize = 4_000_000;
 /// the same seed gives them different numbers.
 const COLUMNS: u64 = 1;
 const PAGES: u64 = 2;
+const WORN: u64 = 3;
 
 /// A comparison with one program, and what it has found so far.
 pub struct Comparison<'a> {
@@ -63,8 +69,8 @@ impl<'a> Comparison<'a> {
         }
     }
 
-    /// Compares columns: measured, written, and what was written read back
-    /// and examined.
+    /// Compares columns: measured, written, and what was written read back,
+    /// whole and by vectors, and examined.
     pub fn columns(&mut self, seed: u64, count: usize) -> Result<(), String> {
         for index in 0..count {
             let mut random = Random::of_case(seed, COLUMNS, index as u64);
@@ -82,6 +88,8 @@ impl<'a> Comparison<'a> {
                 self.read_back(&origin, kind, &page, &values);
                 let output = lend(kind, values.len() + random.below(9), &mut random);
                 self.put(&origin, Request::Read { kind, page: page.clone(), output })?;
+                let questions = every(&page, &mut random);
+                self.ask(&origin, kind, &page, questions, &mut random)?;
                 self.put(&origin, Request::Examine { kind, page })?;
             }
             self.put(&origin, measure)?;
@@ -101,7 +109,8 @@ impl<'a> Comparison<'a> {
         }
     }
 
-    /// Compares damaged and forged pages: read and examined.
+    /// Compares damaged and forged pages: read, whole and two vectors each,
+    /// and examined.
     pub fn pages(&mut self, seed: u64, count: usize) -> Result<(), String> {
         for index in 0..count {
             let mut random = Random::of_case(seed, PAGES, index as u64);
@@ -110,15 +119,70 @@ impl<'a> Comparison<'a> {
             let (kind, page) = (made.kind, made.page);
             let output = lend(kind, made.room, &mut random);
             self.put(&origin, Request::Read { kind, page: page.clone(), output })?;
+            let questions = two(&page, made.touched, &mut random);
+            self.ask(&origin, kind, &page, questions, &mut random)?;
             self.put(&origin, Request::Examine { kind, page })?;
         }
         self.finish()
     }
 
+    /// Compares the vectors of a small page of each kind, at every cut and at
+    /// every offset.
+    pub fn worn(&mut self, seed: u64) -> Result<(), String> {
+        for kind in KINDS {
+            let mut random = Random::of_case(seed, WORN, kind as u64);
+            for made in worn(kind, &mut random) {
+                let origin = format!("seed {seed}, small page ({})", made.note);
+                self.ask(&origin, kind, &made.page, made.questions, &mut random)?;
+            }
+        }
+        self.finish()
+    }
+
+    /// Asks for vectors of a page.
+    fn ask(
+        &mut self,
+        origin: &str,
+        kind: Kind,
+        page: &[u8],
+        questions: Vec<Question>,
+        random: &mut Random,
+    ) -> Result<(), String> {
+        let accepted = self.read_alone(origin, kind, page);
+        for Question { number, room } in questions {
+            let output = lend(kind, room, random);
+            let request = Request::ReadVector { kind, page: page.to_vec(), number, output };
+            self.put_case(Case { origin: origin.into(), request, faulty: !accepted })?;
+        }
+        Ok(())
+    }
+
+    /// This program must agree with itself: each vector of a page, read alone,
+    /// is that stretch of the whole reading. Whether there is a whole reading.
+    fn read_alone(&mut self, origin: &str, kind: Kind, page: &[u8]) -> bool {
+        let Ok((s, count)) = parse_header(page) else { return false };
+        let mut whole = vec![0; count];
+        if read(kind, page, &mut whole).is_err() {
+            return false;
+        }
+        for (v, stretch) in whole.chunks(1 << s).enumerate() {
+            let mut output = vec![0; stretch.len()];
+            let outcome = read_vector(kind, page, v as u64, &mut output);
+            if outcome != Ok(stretch.len()) || output != stretch {
+                self.report(&format!("the second program contradicts itself\n  {origin}, {v}"));
+            }
+        }
+        true
+    }
+
     /// Puts a request into the batch.
     fn put(&mut self, origin: &str, request: Request) -> Result<(), String> {
-        self.waiting_bytes += request_size(&request);
-        self.waiting.push(Case { origin: origin.into(), request });
+        self.put_case(Case { origin: origin.into(), request, faulty: false })
+    }
+
+    fn put_case(&mut self, case: Case) -> Result<(), String> {
+        self.waiting_bytes += request_size(&case.request);
+        self.waiting.push(case);
         if self.waiting_bytes >= BATCH_BYTES {
             return self.flush();
         }
@@ -163,6 +227,9 @@ impl<'a> Comparison<'a> {
     ) -> Result<(), String> {
         self.requests += 1;
         self.tally.count(case.request.call(), case.request.kind(), own.0);
+        if case.faulty && own.0.is_ok() {
+            self.tally.count_spared(case.request.kind());
+        }
         if other != Some(&own.1) {
             self.report(&describe(case, own, other));
         }
@@ -216,6 +283,7 @@ fn request_size(request: &Request) -> usize {
         Request::Measure { kind, values, pairs, .. } => values.len() * kind.size() + pairs.len(),
         Request::Write { kind, values, pairs, .. } => values.len() * kind.size() + pairs.len(),
         Request::Read { page, .. } | Request::Examine { page, .. } => page.len(),
+        Request::ReadVector { page, .. } => page.len() + frames::NUMBER,
     };
     frames::REQUEST_HEAD + lists + 2 * request.output_bytes()
 }
@@ -257,6 +325,11 @@ fn describe_inputs(text: &mut String, request: &Request) {
         }
         Request::Examine { page, .. } => {
             let _ = writeln!(text, "  page     {}", hex(page));
+        }
+        Request::ReadVector { page, number, output, .. } => {
+            let _ = writeln!(text, "  page     {}", hex(page));
+            let _ = writeln!(text, "  number   {number}");
+            let _ = writeln!(text, "  room     {} values", output.len());
         }
     }
 }
@@ -341,7 +414,8 @@ fn good_requests() -> Vec<Request> {
         Request::Measure { kind, s, values, pairs },
         write,
         Request::Read { kind, page: page.clone(), output: vec![0xA5A5_A5A5; 5] },
-        Request::Examine { kind, page },
+        Request::Examine { kind, page: page.clone() },
+        Request::ReadVector { kind, page, number: 0, output: vec![0xA5A5_A5A5; 5] },
     ]
 }
 
@@ -350,7 +424,7 @@ fn bad_requests(good: &[Request]) -> Vec<(String, Vec<u8>)> {
     for request in good {
         let bytes = request.to_bytes();
         let call = request.call().name();
-        for (at, byte) in [(0, 0), (0, 5), (0, 255), (1, 0), (1, 33), (1, 128), (3, 1), (3, 255)] {
+        for (at, byte) in [(0, 0), (0, 6), (0, 255), (1, 0), (1, 33), (1, 128), (3, 1), (3, 255)] {
             let mut changed = bytes.clone();
             changed[at] = byte;
             bad.push((format!("{call} with byte {at} as {byte}"), changed));
@@ -358,27 +432,33 @@ fn bad_requests(good: &[Request]) -> Vec<(String, Vec<u8>)> {
         for keep in [1, 4, 8, 15, 16, 17, bytes.len() - 1] {
             bad.push((format!("{call} cut to {keep} bytes"), bytes[..keep].to_vec()));
         }
-        for (at, limit) in limits(request) {
-            for length in [limit as u32 + 1, u32::MAX] {
-                let mut changed = bytes.clone();
-                changed[at..at + 4].copy_from_slice(&length.to_le_bytes());
-                bad.push((format!("{call} with length {length} at byte {at}"), changed));
-            }
+        for (at, length) in bad_lengths(request) {
+            let mut changed = bytes.clone();
+            changed[at..at + 4].copy_from_slice(&(length as u32).to_le_bytes());
+            bad.push((format!("{call} with length {length} at byte {at}"), changed));
         }
     }
     bad
 }
 
-/// Where the lengths of a call stand in its frame, and how far they go.
-fn limits(request: &Request) -> Vec<(usize, usize)> {
-    match request {
-        Request::Measure { .. } => vec![(4, frames::MOST_VALUES), (8, frames::MOST_PAIRS)],
-        Request::Write { .. } => {
-            vec![(4, frames::MOST_VALUES), (8, frames::MOST_PAIRS), (12, frames::MOST_BYTES)]
-        }
-        Request::Read { .. } => vec![(4, frames::MOST_BYTES), (12, frames::MOST_VALUES)],
-        Request::Examine { .. } => vec![(4, frames::MOST_BYTES)],
+/// Lengths that the frame of a call must not have, and where they stand.
+fn bad_lengths(request: &Request) -> Vec<(usize, usize)> {
+    let most = match request {
+        Request::Measure { .. } => [frames::MOST_VALUES, frames::MOST_PAIRS, 0],
+        Request::Write { .. } => [frames::MOST_VALUES, frames::MOST_PAIRS, frames::MOST_BYTES],
+        Request::Read { .. } => [frames::MOST_BYTES, 0, frames::MOST_VALUES],
+        Request::Examine { .. } => [frames::MOST_BYTES, 0, 0],
+        Request::ReadVector { .. } => [frames::MOST_BYTES, frames::NUMBER, frames::MOST_VALUES],
+    };
+    let mut bad = Vec::new();
+    for (at, most) in [4, 8, 12].into_iter().zip(most) {
+        bad.extend([(at, most + 1), (at, u32::MAX as usize)]);
     }
+    if request.call() == Call::ReadVector {
+        // The one length that may not be shorter either.
+        bad.extend([(8, 0), (8, frames::NUMBER - 1)]);
+    }
+    bad
 }
 
 /// Requests whose lists are as long as they may be.
@@ -394,8 +474,11 @@ fn requests_at_limits() -> Vec<(String, Request)> {
         let output = vec![0xA5; frames::MOST_BYTES];
         let (v, p) = (values.clone(), pairs);
         requests.push((note("write"), Request::Write { kind, s: 3, values: v, pairs: p, output }));
-        requests.push((note("read"), Request::Read { kind, page: page.clone(), output: values }));
-        requests.push((note("examine"), Request::Examine { kind, page }));
+        let (p, output) = (page.clone(), values.clone());
+        requests.push((note("read"), Request::Read { kind, page: p, output }));
+        requests.push((note("examine"), Request::Examine { kind, page: page.clone() }));
+        let vector = Request::ReadVector { kind, page, number: u64::MAX, output: values };
+        requests.push((note("vector"), vector));
     }
     requests
 }

@@ -15,6 +15,8 @@ pub struct Forged {
     pub kind: Kind,
     pub page: Vec<u8>,
     pub room: usize,
+    /// The vector that was forged last, if one was.
+    pub touched: Option<usize>,
 }
 
 /// A page in parts, each of which may be changed by itself.
@@ -26,6 +28,8 @@ struct Draft {
     s: u8,
     count: u32,
     vectors: Vec<Part>,
+    /// Bytes that stand before a vector and belong to none.
+    gaps: Vec<Vec<u8>>,
     /// Added to the offset of a vector.
     shifts: Vec<u32>,
     /// Only so many bytes are kept.
@@ -33,6 +37,8 @@ struct Draft {
     tail: Vec<u8>,
     /// The vector that all forgeries go to, if they shall meet in one.
     focus: Option<usize>,
+    /// The vector that was forged last.
+    touched: Option<usize>,
 }
 
 /// A vector in parts.
@@ -178,21 +184,36 @@ impl Draft {
             encoding: 0,
             s: page.s,
             count: page.count as u32,
+            gaps: vec![Vec::new(); vectors.len()],
             shifts: vec![0; vectors.len()],
             vectors,
             keep: None,
             tail: Vec::new(),
             focus: None,
+            touched: None,
         })
+    }
+
+    /// The end of the offsets, measured as offsets are.
+    fn table(&self) -> usize {
+        layout::OFFSET * self.vectors.len()
     }
 
     /// Where each vector starts in the page, and the end of the last.
     fn starts(&self) -> Vec<usize> {
-        let mut starts = vec![layout::HEADER + layout::OFFSET * self.vectors.len()];
-        for vector in &self.vectors {
-            starts.push(starts[starts.len() - 1] + vector.bytes(self.kind).len());
+        let mut starts = Vec::new();
+        let mut end = layout::HEADER + self.table();
+        for (gap, vector) in self.gaps.iter().zip(&self.vectors) {
+            starts.push(end + gap.len());
+            end += gap.len() + vector.bytes(self.kind).len();
         }
+        starts.push(end);
         starts
+    }
+
+    /// Lets a vector's offset say another place of the page.
+    fn put_offset(&mut self, v: usize, place: usize) {
+        self.shifts[v] = (place as u32).wrapping_sub(self.starts()[v] as u32);
     }
 
     fn bytes(&self) -> Vec<u8> {
@@ -202,7 +223,8 @@ impl Draft {
             let offset = ((start - layout::HEADER) as u32).wrapping_add(*shift);
             push_number(&mut bytes, u64::from(offset), layout::OFFSET);
         }
-        for vector in &self.vectors {
+        for (gap, vector) in self.gaps.iter().zip(&self.vectors) {
+            bytes.extend(gap);
             bytes.extend(vector.bytes(self.kind));
         }
         bytes.extend(&self.tail);
@@ -211,8 +233,10 @@ impl Draft {
     }
 
     /// The number of the vector to forge.
-    fn pick(&self, random: &mut Random) -> usize {
-        self.focus.unwrap_or_else(|| random.below(self.vectors.len()))
+    fn pick(&mut self, random: &mut Random) -> usize {
+        let v = self.focus.unwrap_or_else(|| random.below(self.vectors.len()));
+        self.touched = Some(v);
+        v
     }
 
     /// The vector to forge; a draft has at least one.
@@ -241,7 +265,7 @@ const FORGERIES: &[(&str, Forge)] = &[
         draft.count = draft.count.saturating_add_signed(random.near(9) as i32)
     }),
     ("offsets cut", |draft, random| {
-        let end = layout::HEADER + layout::OFFSET * draft.vectors.len();
+        let end = layout::HEADER + draft.table();
         draft.keep = Some(random.between(8, end - 1));
     }),
     ("an offset wrong", |draft, random| {
@@ -254,9 +278,35 @@ const FORGERIES: &[(&str, Forge)] = &[
     }),
     ("offsets from byte 0", |draft, _| draft.shifts.fill(8)),
     ("offsets from the first vector", |draft, _| {
-        let offsets = (layout::OFFSET * draft.vectors.len()) as u32;
+        let offsets = draft.table() as u32;
         draft.shifts.fill(0u32.wrapping_sub(offsets));
     }),
+    ("an offset before the offsets' end", |draft, random| {
+        let v = draft.pick(random);
+        let less = if random.one_in(2) { 1 } else { random.between(1, draft.table()) };
+        draft.put_offset(v, layout::HEADER + draft.table() - less);
+    }),
+    ("an offset that is the offsets' end", |draft, random| {
+        let v = draft.pick(random);
+        draft.put_offset(v, layout::HEADER + draft.table());
+    }),
+    ("an offset near the end or past it", |draft, random| {
+        let v = draft.pick(random);
+        let end = draft.starts()[draft.vectors.len()];
+        let before = random.below(3 * layout::metadata(draft.kind));
+        draft.put_offset(v, (end + 2).saturating_sub(before));
+    }),
+    ("two offsets swapped", |draft, random| {
+        let (one, other) = (draft.pick(random), random.below(draft.vectors.len()));
+        let starts = draft.starts();
+        draft.put_offset(one, starts[other]);
+        draft.put_offset(other, starts[one]);
+    }),
+    ("a gap before a vector", |draft, random| {
+        let v = draft.pick(random);
+        draft.gaps[v] = random.some_bytes(1, 9);
+    }),
+    ("the last vector where the one before is", last_on_another),
     ("metadata cut", |draft, random| {
         let v = draft.pick(random);
         let start = draft.starts()[v];
@@ -422,6 +472,16 @@ fn two_in_header(draft: &mut Draft, random: &mut Random) {
     let first = random.below(4);
     parts[first](draft, random);
     parts[random.between(first + 1, 4)](draft, random);
+}
+
+/// Takes the last vector's bytes away and lets its offset say the place of the
+/// one before, whose bytes are then the last.
+fn last_on_another(draft: &mut Draft, _: &mut Random) {
+    let last = draft.vectors.len() - 1;
+    let starts = draft.starts();
+    draft.put_offset(last, starts[last.saturating_sub(1)]);
+    draft.keep = Some(starts[last]);
+    draft.touched = Some(last);
 }
 
 /// Cuts inside the data of a vector, or one byte before its end.
@@ -605,8 +665,7 @@ fn page_size(random: &mut Random) -> (u8, usize) {
 }
 
 /// The page of a sound column, by this program's own writer.
-fn sound_page(kind: Kind, random: &mut Random) -> Vec<u8> {
-    let (s, count) = page_size(random);
+pub fn sound_page(kind: Kind, s: u8, count: usize, random: &mut Random) -> Vec<u8> {
     let column = sound_column(kind, s, count, random);
     let mut page = vec![0; column.room];
     let length = write(kind, s, &column.values, &column.pairs, &mut page);
@@ -636,7 +695,9 @@ pub fn forged(index: usize, random: &mut Random) -> Forged {
     let cycle = FORGERIES.len() + DAMAGES.len() + SEVERAL;
     let kind = KINDS[index / cycle % 2];
     let turn = index % cycle;
-    let mut page = sound_page(kind, random);
+    let (s, count) = page_size(random);
+    let mut page = sound_page(kind, s, count, random);
+    let mut touched = None;
     let mut notes = Vec::new();
 
     let forgeries: Vec<usize> = if turn < FORGERIES.len() {
@@ -656,6 +717,7 @@ pub fn forged(index: usize, random: &mut Random) -> Forged {
             notes.push(note);
         }
         page = draft.bytes();
+        touched = draft.touched;
     }
 
     let damage = match turn.checked_sub(FORGERIES.len()) {
@@ -669,5 +731,5 @@ pub fn forged(index: usize, random: &mut Random) -> Forged {
         notes.push(note);
     }
     let room = page_room(&page, random);
-    Forged { note: notes.join("; "), kind, page, room }
+    Forged { note: notes.join("; "), kind, page, room, touched }
 }

@@ -1,8 +1,9 @@
 //! Requests and answers as bytes, and the side that answers them.
 //!
 //! A request: call, kind, s and a zero byte; three lengths A, B, C of 4 bytes
-//! each; then the values or the page, the pairs, and the output as it is
-//! lent. An answer: three numbers of 8 bytes, then the output afterwards.
+//! each; then the values or the page, the pairs or the number of a vector,
+//! and the output as it is lent. An answer: three numbers of 8 bytes, then
+//! the output afterwards.
 
 use std::io::{self, Read, Write};
 
@@ -11,6 +12,7 @@ use crate::examine::examine;
 use crate::floats::Kind;
 use crate::layout::{number, push_number};
 use crate::read::read;
+use crate::read_vector::read_vector;
 use crate::write::{measure, write};
 
 /// Bytes of a request before its lists.
@@ -22,6 +24,8 @@ pub const ANSWER_HEAD: usize = 24;
 pub const MOST_VALUES: usize = 16_400;
 pub const MOST_BYTES: usize = 400_000;
 pub const MOST_PAIRS: usize = 4_200;
+/// Bytes of a vector's number.
+pub const NUMBER: usize = 8;
 
 /// The answer to a request that breaks the shape.
 pub const MALFORMED: Answer = Answer { number: 255, vector: 0, place: 0 };
@@ -33,6 +37,7 @@ pub enum Request {
     Write { kind: Kind, s: u8, values: Vec<u64>, pairs: Vec<u8>, output: Vec<u8> },
     Read { kind: Kind, page: Vec<u8>, output: Vec<u64> },
     Examine { kind: Kind, page: Vec<u8> },
+    ReadVector { kind: Kind, page: Vec<u8>, number: u64, output: Vec<u64> },
 }
 
 /// What came of a call: the answer, and the bytes of the whole output.
@@ -63,6 +68,7 @@ impl Request {
             Request::Write { .. } => Call::Write,
             Request::Read { .. } => Call::Read,
             Request::Examine { .. } => Call::Examine,
+            Request::ReadVector { .. } => Call::ReadVector,
         }
     }
 
@@ -71,7 +77,8 @@ impl Request {
             Request::Measure { kind, .. }
             | Request::Write { kind, .. }
             | Request::Read { kind, .. }
-            | Request::Examine { kind, .. } => *kind,
+            | Request::Examine { kind, .. }
+            | Request::ReadVector { kind, .. } => *kind,
         }
     }
 
@@ -79,7 +86,9 @@ impl Request {
     pub fn output_bytes(&self) -> usize {
         match self {
             Request::Write { output, .. } => output.len(),
-            Request::Read { kind, output, .. } => output.len() * kind.size(),
+            Request::Read { kind, output, .. } | Request::ReadVector { kind, output, .. } => {
+                output.len() * kind.size()
+            }
             Request::Measure { .. } | Request::Examine { .. } => 0,
         }
     }
@@ -101,6 +110,10 @@ impl Request {
             Request::Examine { kind, page } => {
                 frame(4, *kind, unused(page), page.len(), 0, &[page, &[], &[]])
             }
+            Request::ReadVector { kind, page, number, output } => {
+                let lists: [&[u8]; 3] = [page, &number.to_le_bytes(), &value_bytes(*kind, output)];
+                frame(5, *kind, unused(page), page.len(), output.len(), &lists)
+            }
         }
     }
 
@@ -121,6 +134,11 @@ impl Request {
                 reply(outcome, value_bytes(*kind, &output))
             }
             Request::Examine { kind, page } => reply(examine(*kind, page), Vec::new()),
+            Request::ReadVector { kind, page, number, output } => {
+                let mut output = output.clone();
+                let outcome = read_vector(*kind, page, *number, &mut output);
+                reply(outcome, value_bytes(*kind, &output))
+            }
         }
     }
 }
@@ -135,7 +153,7 @@ fn unused(page: &[u8]) -> u8 {
 }
 
 /// A frame of a call number, its lengths A and C, and the three lists; the
-/// second list is the pairs, whose length is B.
+/// second list, of pairs or a vector's number, is in bytes, so its length is B.
 fn frame(call: u8, kind: Kind, s: u8, a: usize, c: usize, lists: &[&[u8]; 3]) -> Vec<u8> {
     let mut bytes = vec![call, kind.bits() as u8, s, 0];
     push_number(&mut bytes, a as u64, 4);
@@ -231,6 +249,7 @@ fn parse_head(head: &[u8]) -> Option<(Kind, [usize; 3])> {
         2 => ([MOST_VALUES, MOST_PAIRS, MOST_BYTES], [a * kind.size(), b, c]),
         3 => ([MOST_BYTES, 0, MOST_VALUES], [a, 0, c * kind.size()]),
         4 => ([MOST_BYTES, 0, 0], [a, 0, 0]),
+        5 if b == NUMBER => ([MOST_BYTES, NUMBER, MOST_VALUES], [a, b, c * kind.size()]),
         _ => return None,
     };
     let within = a <= most[0] && b <= most[1] && c <= most[2];
@@ -242,13 +261,18 @@ fn build(call: u8, kind: Kind, s: u8, lists: &[Vec<u8>]) -> Request {
     let values = || bytes_values(kind, &lists[0]);
     let page = || lists[0].clone();
     let pairs = || lists[1].clone();
+    let output = || bytes_values(kind, &lists[2]);
     match call {
         1 => Request::Measure { kind, s, values: values(), pairs: pairs() },
         2 => {
             let output = lists[2].clone();
             Request::Write { kind, s, values: values(), pairs: pairs(), output }
         }
-        3 => Request::Read { kind, page: page(), output: bytes_values(kind, &lists[2]) },
-        _ => Request::Examine { kind, page: page() },
+        3 => Request::Read { kind, page: page(), output: output() },
+        4 => Request::Examine { kind, page: page() },
+        _ => {
+            let number = number(&lists[1]);
+            Request::ReadVector { kind, page: page(), number, output: output() }
+        }
     }
 }

@@ -1,5 +1,6 @@
 //! An independent second program for ALP pages, written from document 01
-//! (the specification of the build) and source document 004 alone.
+//! (the specification of the build) and source document 004 alone; and, for
+//! `read_vector`, from T-01 of document 02 (the changes requested).
 //!
 //! It is meant to be read next to document 01: every rule stands in one place
 //! and nothing is optimised. The parts:
@@ -7,14 +8,15 @@
 //! - `answer`: the table of refusals;
 //! - `floats`: the two kinds and the way between a value and a whole number;
 //! - `layout`: counts, sizes and bit packing of a page;
-//! - `write`, `read`, `examine`: the calls;
+//! - `write`, `read`, `examine`, `read_vector`: the calls;
 //! - `frames`: requests and answers as bytes, and the serving side;
 //! - `driver`: runs another program and talks to it in frames;
-//! - `random`, `columns`, `forge`: what the programs are compared on;
+//! - `random`, `columns`, `forge`, `ask`: what the programs are compared on;
 //! - `tally`: which refusals were met, and which are missing;
 //! - `compare`: the comparison itself.
 
 pub mod answer;
+pub mod ask;
 pub mod columns;
 pub mod compare;
 pub mod driver;
@@ -25,5 +27,6 @@ pub mod frames;
 pub mod layout;
 pub mod random;
 pub mod read;
+pub mod read_vector;
 pub mod tally;
 pub mod write;

@@ -60,22 +60,18 @@ pub fn read(kind: Kind, bytes: &[u8], output: &mut [u64]) -> Outcome {
 pub fn parse(kind: Kind, bytes: &[u8]) -> Result<Page, Refusal> {
     let (s, count) = parse_header(bytes)?;
     let body = &bytes[layout::HEADER..];
-    let vectors = layout::vectors(count, s);
-    if body.len() < layout::OFFSET * vectors {
-        return refuse(Fault::OffsetsPastEnd);
-    }
+    let offsets = parse_offsets(body, layout::vectors(count, s))?;
 
     let mut page = Page { s, count, vectors: Vec::new() };
-    let mut next = layout::OFFSET * vectors;
-    for v in 0..vectors {
-        let offset = number(&body[layout::OFFSET * v..layout::OFFSET * (v + 1)]);
-        if offset != next as u64 {
+    let mut next = layout::OFFSET * offsets.len();
+    for (v, offset) in offsets.into_iter().enumerate() {
+        if offset != next {
             return refuse_in(Fault::WrongOffset, v);
         }
         let values = layout::values_in(v, count, s);
-        let (vector, size) = parse_vector(kind, &body[next..], values, v)?;
-        page.vectors.push(vector);
-        next += size;
+        let parts = parse_parts(kind, &body[next..], values, v)?;
+        page.vectors.push(parts.vector(kind)?);
+        next += parts.size;
     }
     if body.len() > next {
         return refuse(Fault::BytesAfter);
@@ -84,7 +80,7 @@ pub fn parse(kind: Kind, bytes: &[u8]) -> Result<Page, Refusal> {
 }
 
 /// Rows 1 to 6: s and the count of values.
-fn parse_header(bytes: &[u8]) -> Result<(u8, usize), Refusal> {
+pub fn parse_header(bytes: &[u8]) -> Result<(u8, usize), Refusal> {
     if bytes.len() < layout::HEADER {
         return refuse(Fault::FewBytes);
     }
@@ -107,13 +103,32 @@ fn parse_header(bytes: &[u8]) -> Result<(u8, usize), Refusal> {
     Ok((bytes[3], count as usize))
 }
 
-/// Row 7 for metadata, 9 to 12, 7 for data, 13: the vector and its size.
-fn parse_vector(
-    kind: Kind,
-    rest: &[u8],
-    values: usize,
+/// Row 7 for the offsets: all of them, as they are stored.
+pub fn parse_offsets(body: &[u8], vectors: usize) -> Result<Vec<usize>, Refusal> {
+    let Some(table) = body.get(..layout::OFFSET * vectors) else {
+        return refuse(Fault::OffsetsPastEnd);
+    };
+    Ok(table.chunks_exact(layout::OFFSET).map(|offset| number(offset) as usize).collect())
+}
+
+/// The parts of one vector, which lie inside the page.
+pub struct Parts<'a> {
     v: usize,
-) -> Result<(Vector, usize), Refusal> {
+    values: usize,
+    exponent: u8,
+    factor: u8,
+    frame: i64,
+    width: usize,
+    packed: &'a [u8],
+    list: &'a [u8],
+    patterns: &'a [u8],
+    /// Bytes of the whole vector.
+    pub size: usize,
+}
+
+/// Row 7 for metadata, 9 to 12, 7 for data, of the vector that the rest of
+/// the page starts with.
+pub fn parse_parts(kind: Kind, rest: &[u8], values: usize, v: usize) -> Result<Parts<'_>, Refusal> {
     let data = layout::metadata(kind);
     if rest.len() < data {
         return refuse_in(Fault::MetadataPastEnd, v);
@@ -138,19 +153,25 @@ fn parse_vector(
 
     let list = data + layout::packed_bytes(values, width);
     let patterns = list + layout::POSITION * listed;
-    let packed = &rest[data..list];
-    let positions = parse_positions(&rest[list..patterns], values, v)?;
-    let vector = Vector {
-        exponent,
-        factor,
-        frame,
-        width,
-        fields: layout::unpack(packed, values, width),
-        unused_bit: layout::unused_bit_set(packed, values, width),
-        positions,
-        exceptions: rest[patterns..size].chunks_exact(kind.size()).map(number).collect(),
-    };
-    Ok((vector, size))
+    let (packed, list, patterns) =
+        (&rest[data..list], &rest[list..patterns], &rest[patterns..size]);
+    Ok(Parts { v, values, exponent, factor, frame, width, packed, list, patterns, size })
+}
+
+impl Parts<'_> {
+    /// Row 13, then the vector.
+    pub fn vector(&self, kind: Kind) -> Result<Vector, Refusal> {
+        Ok(Vector {
+            positions: parse_positions(self.list, self.values, self.v)?,
+            exponent: self.exponent,
+            factor: self.factor,
+            frame: self.frame,
+            width: self.width,
+            fields: layout::unpack(self.packed, self.values, self.width),
+            unused_bit: layout::unused_bit_set(self.packed, self.values, self.width),
+            exceptions: self.patterns.chunks_exact(kind.size()).map(number).collect(),
+        })
+    }
 }
 
 /// Row 13: each position is below the count and above the one before.

@@ -1,5 +1,5 @@
-//! Counts which answers were given by which call, and says which of document
-//! 01's rows were never met.
+//! Counts which answers were given by which call, and says which rows of the
+//! table were never met.
 
 use std::fmt::Write;
 
@@ -9,19 +9,22 @@ use crate::floats::{Kind, KINDS};
 /// Counts of one line of the table, by call and kind.
 #[derive(Clone, Copy, Default)]
 struct Counts {
-    by: [[u64; 2]; 4],
+    by: [[u64; KINDS.len()]; CALLS.len()],
     /// How many of them named a vector other than the first.
-    later: [u64; 4],
+    later: [u64; CALLS.len()],
 }
 
 pub struct Tally {
     done: Counts,
     refused: Vec<Counts>,
+    /// Vectors that were read alone from pages that reading as a whole refuses.
+    spared: [u64; KINDS.len()],
 }
 
 impl Default for Tally {
     fn default() -> Tally {
-        Tally { done: Counts::default(), refused: vec![Counts::default(); TABLE.len()] }
+        let refused = vec![Counts::default(); TABLE.len()];
+        Tally { done: Counts::default(), refused, spared: [0; KINDS.len()] }
     }
 }
 
@@ -37,10 +40,17 @@ impl Tally {
         }
     }
 
+    pub fn count_spared(&mut self, kind: Kind) {
+        self.spared[kind as usize] += 1;
+    }
+
     /// Every line that a call of a kind has never given though it should, and
     /// every vector's line that it has given of no later vector.
     pub fn missing(&self) -> Vec<String> {
         let mut missing = Vec::new();
+        for kind in KINDS.into_iter().filter(|kind| self.spared[*kind as usize] == 0) {
+            missing.push(format!("a vector of a page that read refuses, {}-bit", kind.bits()));
+        }
         let done = (0, "done", &CALLS[..], false, &self.done);
         let lines = TABLE.iter().zip(&self.refused);
         let refused = lines.map(|(l, counts)| (l.row, l.text, l.given_by, l.of_vector, counts));
@@ -75,11 +85,16 @@ impl Tally {
             let later = line.of_vector.then(|| counts.later.iter().sum());
             push_line(&mut text, line.row, line.text, line.given_by, later, counts);
         }
+        let [single, double] = self.spared;
+        let _ = writeln!(
+            text,
+            "vectors done of pages that read refuses: {single} 32-bit, {double} 64-bit"
+        );
         text
     }
 }
 
-/// One line; a dash where document 01 gives the row to another call.
+/// One line; a dash where the row is given by other calls alone.
 fn push_line(
     text: &mut String,
     row: u64,

@@ -58,10 +58,37 @@ fn a_refusal_carries_the_output_as_it_came() {
 }
 
 #[test]
+fn a_vectors_number_has_8_bytes_and_may_be_any() {
+    let ask = |number| {
+        let page = PAGE.to_vec();
+        Request::ReadVector { kind: Kind::Single, page, number, output: vec![9, 9, 9] }.to_bytes()
+    };
+    let good = ask(0);
+    let wanted = [
+        &[5, 32, 21, 0, 21, 0, 0, 0, 8, 0, 0, 0, 3, 0, 0, 0][..],
+        &PAGE,
+        &[0; 8],
+        &[9, 0, 0, 0, 9, 0, 0, 0, 9, 0, 0, 0],
+    ];
+    assert_eq!(good, wanted.concat());
+    let values = [0, 0, 0xE0, 0x40, 0, 0, 0xE0, 0x40, 9, 0, 0, 0];
+    assert_eq!(said(&good), [&numbers(0, 0, 2)[..], &values].concat());
+    for number in [1, 1 << 32, u64::MAX] {
+        let left = [9, 0, 0, 0, 9, 0, 0, 0, 9, 0, 0, 0];
+        assert_eq!(said(&ask(number)), [&numbers(30, 0, 0)[..], &left].concat());
+    }
+    for length in [0, 7, 9] {
+        let mut bad = good.clone();
+        bad[8] = length;
+        assert_eq!(said(&bad), numbers(255, 0, 0), "a number of {length} bytes");
+    }
+}
+
+#[test]
 fn what_breaks_the_shape_gets_255_and_ends() {
     let good = write_request().to_bytes();
     let no = numbers(255, 0, 0);
-    for (at, byte) in [(0, 0), (0, 5), (1, 31), (3, 1), (6, 1), (9, 255), (14, 255)] {
+    for (at, byte) in [(0, 0), (0, 6), (1, 31), (3, 1), (6, 1), (9, 255), (14, 255)] {
         let mut bad = good.clone();
         bad[at] = byte;
         bad.extend(&good);

@@ -5,6 +5,7 @@ use second::answer::{answer_of, Answer, Outcome};
 use second::examine::examine;
 use second::floats::Kind;
 use second::read::read;
+use second::read_vector::read_vector;
 use second::write::{measure, write};
 
 fn numbers(outcome: Outcome) -> (u64, u64, u64) {
@@ -71,6 +72,97 @@ fn reader_looks_at_vectors_in_turn() {
     assert_eq!(read_as(&longer, 0), (14, 0, 0), "bytes after before the output's length");
     assert_eq!(read_as(&page, 8), (15, 0, 0));
     assert_eq!(read_as(&page, 9), (0, 0, 9));
+}
+
+/// Eleven zeros as doubles, s 3, but for NaNs at 2, 6 and 10: two vectors, each
+/// with a list of positions.
+fn listed_vectors() -> Vec<u8> {
+    let values: Vec<u64> = (0..11).map(|i| if i % 4 == 2 { u64::MAX } else { 0 }).collect();
+    let mut page = vec![0; 400];
+    let length = write(Kind::Double, 3, &values, &[0; 4], &mut page).expect("a sound column");
+    page.truncate(length);
+    page
+}
+
+fn alone(kind: Kind, page: &[u8], number: u64, room: usize) -> (u64, u64, u64) {
+    let mut output = vec![9; room];
+    let answer = numbers(read_vector(kind, page, number, &mut output));
+    let written = if answer.0 == 0 { answer.2 as usize } else { 0 };
+    assert!(output[written..].iter().all(|value| *value == 9), "the rest stays");
+    answer
+}
+
+#[test]
+fn one_vector_is_found_by_its_number_after_the_header_and_before_the_offsets() {
+    let page = two_vectors();
+    let ask = |page: &[u8], number| alone(Kind::Single, page, number, 0);
+    assert_eq!(ask(&page[..7], u64::MAX), (1, 0, 0));
+    for number in [2, 3, 1 << 32, (1 << 32) + 1, 1 << 63, u64::MAX] {
+        assert_eq!(ask(&page[..15], number), (30, 0, 0), "number {number}");
+    }
+    assert_eq!(ask(&page[..15], 1), (7, 0, 0), "7 for the offsets gives no vector");
+    assert_eq!(ask(&[1, 0, 0, 3, 0, 0, 0, 0], 0), (30, 0, 0), "an empty page has no vector 0");
+}
+
+#[test]
+fn one_vector_is_read_whatever_the_others_are() {
+    let page = two_vectors();
+    let mut forged = page.clone();
+    forged[16] = 99; // the first exponent
+    assert_eq!(alone(Kind::Single, &forged, 0, 8), (9, 0, 0));
+    assert_eq!(alone(Kind::Single, &forged, 1, 3), (0, 0, 1));
+    forged.truncate(page.len() - 1);
+    assert_eq!(alone(Kind::Single, &forged, 1, 3), (7, 1, 0));
+    forged[16] = 0;
+    assert_eq!(alone(Kind::Single, &forged, 0, 9), (0, 0, 8), "the second vector is cut");
+
+    let mut gap = page.clone();
+    gap.splice(16..16, [1, 2, 3]);
+    gap[8] += 3;
+    gap[12] += 3;
+    assert_eq!(alone(Kind::Single, &gap, 0, 8), (0, 0, 8), "a gap before it");
+    assert_eq!(alone(Kind::Single, &gap, 1, 1), (0, 0, 1));
+}
+
+#[test]
+fn one_vector_starts_after_the_offsets_and_ends_where_they_say() {
+    let page = two_vectors();
+    let second = 8 + 9 + 3;
+    let ask = |offset: u32, number| {
+        let mut forged = page.clone();
+        forged[12..16].copy_from_slice(&offset.to_le_bytes());
+        alone(Kind::Single, &forged, number, 8)
+    };
+    assert_eq!((ask(second, 0), ask(second, 1)), ((0, 0, 8), (0, 0, 1)));
+    assert_eq!((ask(second - 1, 0), ask(second + 1, 0)), ((8, 0, 0), (8, 0, 0)));
+    assert_eq!((ask(7, 1), ask(0, 1)), ((8, 1, 0), (8, 1, 0)), "before the offsets' end");
+    assert_eq!(ask(8, 1), (8, 1, 0), "the first vector's bytes, but not to the page's end");
+    assert_eq!(ask(second + 1, 1), (7, 1, 0), "a byte of its metadata is missing");
+    assert_eq!((ask(second + 9, 1), ask(u32::MAX, 1)), ((7, 1, 0), (7, 1, 0)), "past the end");
+
+    let longer = [page.clone(), vec![0]].concat();
+    assert_eq!(alone(Kind::Single, &longer, 1, 1), (8, 1, 0), "bytes after the last vector");
+    assert_eq!(alone(Kind::Single, &longer, 0, 8), (0, 0, 8));
+}
+
+#[test]
+fn one_vector_ends_rightly_before_its_positions_and_they_before_the_room() {
+    let page = listed_vectors();
+    let kind = Kind::Double;
+    // Two vectors of 13 bytes, no packed ones; 2 and 1 exceptions.
+    let (second, positions) = (16 + 13 + 2 * 10, 16 + 13 + 2 * 10 + 13);
+    assert_eq!(page.len(), second + 13 + 10);
+    let mut forged = page.clone();
+    forged[positions] = 3;
+    assert_eq!(alone(kind, &forged, 1, 0), (13, 1, 0));
+    forged.push(0);
+    assert_eq!(alone(kind, &forged, 1, 0), (8, 1, 0));
+    forged[second + 2] = 4;
+    assert_eq!(alone(kind, &forged, 1, 0), (11, 1, 0));
+    forged[16 + 13 + 2] = 2;
+    assert_eq!(alone(kind, &forged, 0, 0), (13, 0, 1), "the second of its list");
+    assert_eq!((alone(kind, &page, 0, 7), alone(kind, &page, 1, 2)), ((15, 0, 0), (15, 0, 0)));
+    assert_eq!((alone(kind, &page, 0, 8), alone(kind, &page, 1, 5)), ((0, 0, 8), (0, 0, 3)));
 }
 
 #[test]
