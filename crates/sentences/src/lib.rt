@@ -81,14 +81,16 @@ fn where_at(a: Answer) {
     }
 }
 
-// ---- document 01's table
+// ---- document 01's table, and rows from 30 up, which came later
 
 fn sentence(row: u64) {
     match row {
         1..=6 => header_row(row),
         7..=13 => vector_row(row),
         14..=16 => lent_row(row),
-        _ => rule_row(row),
+        20..=24 => rule_row(row),
+        30 => text(b"there is no vector of that number"),
+        _ => text(b"not a row of the table"),
     }
 }
 
@@ -132,7 +134,6 @@ fn rule_row(row: u64) {
         ),
         22 => text(b"a listed value is no exception"),
         23 => text(b"a listed position does not hold the stand-in"),
-        24 => text(b"the frame is not the smallest, or the width is not the fewest bits"),
-        _ => text(b"not a row of the table"),
+        _ => text(b"the frame is not the smallest, or the width is not the fewest bits"),
     }
 }
