@@ -1,5 +1,6 @@
 // The words on the command line.
 use checks::kind::Kind;
+ghost use Prim.Native.Nat.{_≤_};
 
 pub enum Job {
     Write,
@@ -17,6 +18,11 @@ pub enum KindWord {
 
 pub enum ByteWord {
     Is(u8),
+    Wrong,
+}
+
+pub enum NumberWord {
+    Is(u64),
     Wrong,
 }
 
@@ -83,35 +89,52 @@ fn kind_named(word: &[u8]) -> KindWord {
     KindWord::Wrong
 }
 
-// The number from 0 to 255 that word i spells. Whether it is inside the page's limits is the library's to say.
+// The number from 0 to 255 that word i spells, so `%` cuts nothing off. Whether it is inside the page's limits is the library's to say.
 pub fn byte(i: usize) -> ByteWord {
     let mut word: [u8; 8] = [0; 8];
     let n = os::arg(i, &mut word);
     if os::errno() != 0 {
         return ByteWord::Wrong;
     }
-    spelled(&word[..n])
+    match spelled(&word[..n], 255) {
+        NumberWord::Is(number) => ByteWord::Is((number % 256) as u8),
+        NumberWord::Wrong => ByteWord::Wrong,
+    }
 }
 
-fn spelled(word: &[u8]) -> ByteWord {
+// The number of 64 bits that word i spells; the largest has 20 digits.
+pub fn number(i: usize) -> NumberWord {
+    let mut word: [u8; 20] = [0; 20];
+    let n = os::arg(i, &mut word);
+    if os::errno() != 0 {
+        return NumberWord::Wrong;
+    }
+    spelled(&word[..n], 0xFFFF_FFFF_FFFF_FFFF)
+}
+
+// The number that the digits spell, if it is not above `most`.
+fn spelled(word: &[u8], most: u64) -> NumberWord
+    requires { ⌜ 9 ≤ most ⌝ }
+{
     if word.len() == 0 {
-        return ByteWord::Wrong;
+        return NumberWord::Wrong;
     }
     let mut number: u64 = 0;
     let mut i: usize = 0;
     while i < word.len() {
-        let digit = word[i];
-        if digit < b'0' {
-            return ByteWord::Wrong;
+        let byte = word[i];
+        if byte < b'0' {
+            return NumberWord::Wrong;
         }
-        if b'9' < digit {
-            return ByteWord::Wrong;
+        if b'9' < byte {
+            return NumberWord::Wrong;
         }
-        number = number * 10 + (digit - b'0') as u64;
-        if 255 < number {
-            return ByteWord::Wrong;
+        let digit = (byte - b'0') as u64;
+        if (most - digit) / 10 < number {
+            return NumberWord::Wrong;
         }
+        number = number * 10 + digit;
         i += 1;
     }
-    ByteWord::Is(number as u8)
+    NumberWord::Is(number)
 }

@@ -2,7 +2,7 @@
 // not its zeros.
 
 // A byte more than the longest page has. The first bytes of a longer file get the answer that all of it would get (`tool-reads-enough` and
-// its neighbours in theorems/proofs/Longer).
+// its neighbours in theorems/proofs/Longer); one vector alone may lie behind them, so it is not read from a file that fills this.
 pub fn page_file() -> [u8; 329737] {
     [0; 329737]
 }

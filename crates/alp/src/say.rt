@@ -19,6 +19,9 @@ pub fn help() {
     );
     text(b"  alp read KIND PAGE COLUMN          read a page back to its column\n");
     text(
+        b"  alp read KIND PAGE COLUMN NUMBER   read one vector of a page alone, to a column of its values\n",
+    );
+    text(
         b"  alp examine KIND PAGE              say whether the file is a page, and of how many values, or why not\n",
     );
     text(
@@ -29,8 +32,12 @@ pub fn help() {
         b"KIND is 32 or 64. A column file is raw little-endian floats, at most 16,384 of them. S is 3 to 10, E at most 10 or 18\n",
     );
     text(
-        b"by the kind, F at most E. COLUMN and PAGE are made anew: a file that exists is never overwritten.\n\n",
+        b"by the kind, F at most E. COLUMN and PAGE are made anew: a file that exists is never overwritten.\n",
     );
+    text(
+        b"NUMBER counts a page's vectors from 0 and is below 2^64. No vector is read from a file of more than 329,736 bytes,\n",
+    );
+    text(b"the most that a page has.\n\n");
     text(
         b"An answer is three numbers and a sentence: 0, 0 and a count for done; else the number of the row that refuses, the\n",
     );
