@@ -1,15 +1,17 @@
-// Runs document 01's recordings and columns of edge lengths through the library and prints what each call answers and gives; the gate
-// holds the output to what an independent program over exact fractions gives.
+// Runs document 01's recordings, a page read vector by vector, and columns of edge lengths through the library and prints what each call
+// answers and gives; the gate holds the output to what an independent program over exact fractions gives.
 mod columns;
 mod examined;
 mod pages;
 mod refused;
 mod show;
 mod starred;
+mod vectors;
 
 fn main() {
     starred::run();
     refused::run();
     examined::run();
+    vectors::run();
     columns::run();
 }

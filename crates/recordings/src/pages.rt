@@ -9,7 +9,7 @@ use reader::read32;
 use reader::read64;
 
 pub fn both32(name: &[u8], page: &[u8]) {
-    let mut out: [u32; 16] = [0xEEEE_EEEE; 16];
+    let mut out: [u32; 24] = [0xEEEE_EEEE; 24];
     let read = read32(page, &mut out);
     line(name, b" read ", read);
     if read.number == 0 {
@@ -21,7 +21,7 @@ pub fn both32(name: &[u8], page: &[u8]) {
 }
 
 pub fn both64(name: &[u8], page: &[u8]) {
-    let mut out: [u64; 16] = [0xEEEE_EEEE; 16];
+    let mut out: [u64; 24] = [0xEEEE_EEEE; 24];
     let read = read64(page, &mut out);
     line(name, b" read ", read);
     if read.number == 0 {
