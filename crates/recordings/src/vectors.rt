@@ -27,18 +27,19 @@ struct Case {
     room: usize,
 }
 
+// A number behind its name.
+fn field(name: &[u8], n: u64) {
+    text(name);
+    number(n);
+}
+
 fn said(kind: u64, c: Case, a: Answer) {
     number(kind);
-    text(b" byte ");
-    number(c.at as u64);
-    text(b" is ");
-    number(c.byte as u64);
-    text(b", length ");
-    number(c.length as u64);
-    text(b", vector ");
-    number(c.number as u64);
-    text(b", room ");
-    number(c.room as u64);
+    field(b" byte ", c.at as u64);
+    field(b" is ", c.byte as u64);
+    field(b", length ", c.length as u64);
+    field(b", vector ", c.number as u64);
+    field(b", room ", c.room as u64);
     line(b"", b": ", a);
 }
 
