@@ -1,7 +1,7 @@
 -- The rows of one vector's reading: what it shows that they pass; where the vector lies, in the page's bytes; and how many values it gives.
 -- Assumes nothing.
 use mathlib.Core.Path.{_≡_, ap, ap₂, _∙_}
-use mathlib.Core.Bool.{not, cond}
+use mathlib.Core.Bool.{not}
 use Prim.Native.Nat.{ℕ, suc, _+_, _-_, _*_, _^_, _<_, _≤_}
 use native.Mathlib.Nat.{le-trans, mul-le-mul-right, suc-mul, div-mul-le-self}
 use native.Mathlib.Omega.{arith}
@@ -15,7 +15,7 @@ use Rattle.digits.specs.Digits.{number}
 use Rattle.digits.proofs.Rows.{getD-numbers}
 use Rattle.rules.specs.Kind.{metaBytes}
 use Rattle.rules.specs.Page.{Meta, vectorSize, metaAt, rawFrom, sOf, countOf, vectorsOf, offsetsOf}
-use Rattle.rules.specs.Verdict.{fine, verdict, row, the-page, in-vector, _below_, _isnt_}
+use Rattle.rules.specs.Verdict.{fine, verdict, the-page, in-vector, _below_, _isnt_}
 use Rattle.rules.specs.Read.{headRows, metaRows}
 use Rattle.rules.specs.ReadVector.{valuesIn, Span, spanOf, partFrom, numberRows, aloneRows, readVectorRows, vectorValues}
 use Rattle.rules.proofs.Rows.{row-fine, row-first, first-fine, isnt-false}

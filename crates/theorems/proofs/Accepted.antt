@@ -26,7 +26,7 @@ use Rattle.rules.proofs.Decoded.{raws-count, joined-values}
 bytes-take : (n : ℕ) (bs : List ℕ) → Bytes bs → Bytes (take n bs)
 bytes-take = each-take (λ (b : ℕ). b < 256)
 
-bytes-drop : (n : ℕ) (bs : List ℕ) → Bytes bs → Bytes (drop n bs)
+pub bytes-drop : (n : ℕ) (bs : List ℕ) → Bytes bs → Bytes (drop n bs)
 bytes-drop = each-drop (λ (b : ℕ). b < 256)
 
 -- ---- one vector
@@ -120,7 +120,7 @@ module _ (fmt : Format) (n : ℕ) (bs : List ℕ) (h : Bytes bs) (ok : Passed fm
   data-room : packedSize n (m .width) + m .listed * (2 + wordBytes fmt) ≤ length (drop (metaBytes fmt) bs)
   data-room = let w = ok .whole in rw length-drop (omega arith)
 
-  vector-fit : Fit fmt r
+  pub vector-fit : Fit fmt r
   vector-fit = raw-fit fmt n m (drop (metaBytes fmt) bs) (bytes-drop (metaBytes fmt) bs h) data-room (meta-listed fmt bs h (ok .room)) (meta-frame fmt bs h (ok .room))
 
   vector-sound : Sound fmt r

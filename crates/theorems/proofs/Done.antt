@@ -1,18 +1,14 @@
 -- When writer, reader, the reading of one vector and the examiner are done, and what that shows. Assumes nothing.
 use mathlib.Core.Path.{_≡_, sym, ap, _∙_, subst}
 use mathlib.Core.Logic.{_↔_}
-use Prim.Native.Nat.{ℕ, _+_, _*_, _<_, _≤_}
-use native.Mathlib.Nat.{le-trans, le-of-eq, mul-add}
-use native.Mathlib.Omega.{arith}
+use Prim.Native.Nat.{ℕ, _+_, _*_, _≤_}
+use native.Mathlib.Nat.{le-trans, le-of-eq}
 use mathlib.Core.List.{List}
-use lib.ListN.{length, drop, length-drop}
+use lib.ListN.{length}
 use lib.Ieee.{Format}
 use borrow.Author.Tests.{ltb-false, le-ltb}
-use Rattle.digits.specs.Digits.{packedSize}
-use Rattle.digits.proofs.Lists.{each-drop}
-use Rattle.digits.proofs.Rows.{numbers-lt}
-use Rattle.rules.specs.Kind.{Bytes, Values, metaBytes, wordBytes}
-use Rattle.rules.specs.Page.{vectors, pageOf, countOf, metaAt, rawFrom, rawsOf}
+use Rattle.rules.specs.Kind.{Bytes, Values}
+use Rattle.rules.specs.Page.{vectors, pageOf, countOf, rawsOf}
 use Rattle.rules.specs.Verdict.{fine, verdict, row, the-page, _below_, done}
 use Rattle.rules.specs.Read.{pageRows, valuesOf, readRows, readOf}
 use Rattle.rules.specs.ReadVector.{valuesIn, spanOf, partFrom, readVectorRows, vectorValues, readVectorOf}
@@ -24,7 +20,7 @@ use Rattle.rules.proofs.Settings.{settings-pass, settings-fine}
 use Rattle.rules.proofs.Decoded.{values-count, decoded-values}
 use Rattle.rules.proofs.ReadingVector.{chosen-fine, vector-values-count}
 use Rattle.theorems.proofs.RoundTrip.{written-length}
-use Rattle.theorems.proofs.Accepted.{read-values}
+use Rattle.theorems.proofs.Accepted.{bytes-drop, vector-fit, read-values}
 
 -- ---- the writer
 
@@ -98,20 +94,11 @@ module _ (fmt : Format) (v room : ℕ) (bs vs : List ℕ) (e : readVectorOf fmt 
 
   -- its exceptions are all there, so each is a word of the kind
   pub vector-values-done : Bytes bs → Values fmt vs
-  unfolding vectorValues rawFrom
+  unfolding vectorValues
   vector-values-done h =
       let part = partFrom bs (spanOf bs v) in
-      let n = valuesIn bs v in
-      let m = metaAt fmt part in
-      let whole = chosen-fine fmt v room bs (given .0) .alone .passes .whole in
-      let bytes : Bytes part = each-drop (λ (b : ℕ). b < 256) (8 + spanOf bs v .from) bs h in
-      let payload = drop (metaBytes fmt) part in
-      let lists = drop (packedSize n (m .width)) payload in
-      let stored = drop (m .listed * 2) lists in
-      let inside : m .listed * wordBytes fmt ≤ length stored =
-      omega (arith, whole, mul-add (m .listed) 2 (wordBytes fmt), length-drop (metaBytes fmt) part, length-drop (packedSize n (m .width)) payload, length-drop (m .listed * 2) lists) in
-      let words = numbers-lt (wordBytes fmt) (m .listed) stored inside (each-drop (λ (b : ℕ). b < 256) (m .listed * 2) lists (each-drop (λ (b : ℕ). b < 256) (packedSize n (m .width)) payload (each-drop (λ (b : ℕ). b < 256) (metaBytes fmt) part bytes))) in
-      subst (Values fmt) (given .1) (decoded-values fmt (rawFrom fmt n m (drop (metaBytes fmt) part)) (rw (power-word fmt) at words))
+      let fit = vector-fit fmt (valuesIn bs v) part (bytes-drop (8 + spanOf bs v .from) bs h) (chosen-fine fmt v room bs (given .0) .alone .passes) in
+      subst (Values fmt) (given .1) (decoded-values fmt _ (rw (power-word fmt) at (fit .exceptions)))
 
 pub vector-reader-room : (fmt : Format) (v : ℕ) (bs : List ℕ) (room : ℕ) (vs : List ℕ) → readVectorOf fmt v room bs ≡ done vs → length vs ≤ room
 vector-reader-room fmt v bs room vs e = le-trans (le-of-eq (vector-done fmt v room bs vs e)) (chosen-fine fmt v room bs (given fmt v room bs vs e .0) .roomy)

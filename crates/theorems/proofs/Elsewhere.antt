@@ -1,22 +1,21 @@
 -- What the reading of one vector looks at: the header, its two offsets, its own bytes and the page's length. Two byte lists that agree there
 -- get the same answer, whatever they hold elsewhere. Assumes nothing.
-use mathlib.Core.Path.{_≡_, refl, sym, ap, ap₂, _∙_}
+use mathlib.Core.Path.{_≡_, sym, ap, ap₂, _∙_}
 use Prim.Native.Nat.{ℕ, zero, suc, _+_, _-_, _*_, _<_, _≤_}
-use native.Mathlib.Nat.{mul-add}
 use native.Mathlib.Omega.{arith}
 use mathlib.Core.List.{List, [], _∷_, _++_}
 use lib.ListN.{length, take, drop, getD, length-drop}
-use lib.Seq.{getD-take, take-nil, take-append-le, drop-append-le, length-take-le}
+use lib.Seq.{getD-take, take-nil, length-take-le}
 use lib.Ieee.{Format}
-use Rattle.digits.specs.Digits.{number, numbers, packedSize}
-use Rattle.rules.specs.Kind.{metaBytes, wordBytes}
+use Rattle.digits.specs.Digits.{number}
+use Rattle.rules.specs.Kind.{metaBytes}
 use Rattle.rules.specs.Vector.{Raw, decoded}
 use Rattle.rules.specs.Page.{Meta, vectorSize, metaAt, rawFrom, sOf, countOf, vectorsOf}
 use Rattle.rules.specs.Verdict.{Rows, row, _then_, in-vector, _below_, _isnt_, verdict, settle}
 use Rattle.rules.specs.Read.{headRows, offsetsRow, metaRows, positionsRows, listRows}
 use Rattle.rules.specs.ReadVector.{valuesIn, Span, spanOf, numberRows, aloneRows, readVectorRows, vectorValues, readVectorOf}
 use Rattle.rules.specs.Demands.{vectorAt, Alike}
-use Rattle.theorems.proofs.Longer.{numbers-same, meta-same, first-of}
+use Rattle.theorems.proofs.Longer.{meta-same, raw-same, first-of}
 
 -- ---- the header
 
@@ -39,42 +38,19 @@ module _ (bs cs : List ℕ) (same : take 8 bs ≡ take 8 cs) where
 
 -- ---- the vector: what is read of it stands in as many bytes as it has
 
--- bytes that follow it do not matter
-raw-same : (fmt : Format) (n : ℕ) (m : Meta) (part behind : List ℕ) → vectorSize fmt n m ≤ length part
-    → rawFrom fmt n m (drop (metaBytes fmt) (part ++ behind)) ≡ rawFrom fmt n m (drop (metaBytes fmt) part)
-unfolding rawFrom
-raw-same fmt n m part behind s =
-    let k : ℕ = packedSize n (m .width) in
-    let payload : List ℕ = drop (metaBytes fmt) part in
-    let lists : List ℕ = drop k payload in
-    let stored : List ℕ = drop (m .listed * 2) lists in
-    let e = mul-add (m .listed) 2 (wordBytes fmt) in
-    let lp = length-drop (metaBytes fmt) part in
-    let ll = length-drop k payload in
-    let ls = length-drop (m .listed * 2) lists in
-    let a : drop (metaBytes fmt) (part ++ behind) ≡ payload ++ behind = drop-append-le (metaBytes fmt) part behind (omega arith) in
-    let b : drop k (payload ++ behind) ≡ lists ++ behind = drop-append-le k payload behind (omega arith) in
-    let c : drop (m .listed * 2) (lists ++ behind) ≡ stored ++ behind = drop-append-le (m .listed * 2) lists behind (omega arith) in
-    let packed : take k (payload ++ behind) ≡ take k payload = take-append-le k payload behind (omega arith) in
-    let positions : numbers 2 (m .listed) (lists ++ behind) ≡ numbers 2 (m .listed) lists = numbers-same 2 (m .listed) lists behind (omega arith) in
-    let exceptions : numbers (wordBytes fmt) (m .listed) (stored ++ behind) ≡ numbers (wordBytes fmt) (m .listed) stored = numbers-same (wordBytes fmt) (m .listed) stored behind (omega arith) in
-    rw (a, b, c, packed, positions, exceptions)
-
 module _ (fmt : Format) (n : ℕ) (m : Meta) (part other : List ℕ) (same : take (vectorSize fmt n m) part ≡ take (vectorSize fmt n m) other) where
   abbrev k : ℕ
   k = vectorSize fmt n m
 
-  front : (f : List ℕ → Meta) → ((l : List ℕ) → k ≤ length l → f (take k l ++ drop k l) ≡ f (take k l)) → f part ≡ f other
+  -- what any k bytes decide, these k bytes decide
+  front : {A : Type 0} (f : List ℕ → A) → ((l : List ℕ) → k ≤ length l → f (take k l ++ drop k l) ≡ f (take k l)) → f part ≡ f other
   front f h = sym (first-of f k part (h part)) ∙ ap f same ∙ first-of f k other (h other)
 
   part-meta : metaAt fmt part ≡ metaAt fmt other
   part-meta = front (metaAt fmt) (λ l h. meta-same fmt (take k l) (drop k l) (omega (arith, length-take-le k l h)))
 
   part-raw : rawFrom fmt n m (drop (metaBytes fmt) part) ≡ rawFrom fmt n m (drop (metaBytes fmt) other)
-  part-raw =
-      let read : List ℕ → Raw = λ l. rawFrom fmt n m (drop (metaBytes fmt) l) in
-      let h : (l : List ℕ) → k ≤ length l → read (take k l ++ drop k l) ≡ read (take k l) = λ l g. raw-same fmt n m (take k l) (drop k l) (omega (arith, length-take-le k l g)) in
-      sym (first-of read k part (h part)) ∙ ap read same ∙ first-of read k other (h other)
+  part-raw = front (λ l. rawFrom fmt n m (drop (metaBytes fmt) l)) (λ l h. raw-same fmt n m (take k l) (drop k l) (omega (arith, length-take-le k l h)))
 
   part-list : (v : ℕ) → listRows fmt v n m part ≡ listRows fmt v n m other
   unfolding listRows

@@ -2,7 +2,7 @@
 use mathlib.Core.Path.{_≡_, refl}
 use Prim.Native.Nat.{ℕ}
 use mathlib.Core.List.{List, [], _∷_, _++_}
-use lib.ListN.{length, replicate}
+use lib.ListN.{replicate}
 use lib.Ieee.{Format, binary32, binary64}
 use Rattle.digits.specs.Digits.{allDigits}
 use Rattle.rules.specs.Kind.{wordBytes}
@@ -58,7 +58,7 @@ unfolding allDigits allDecimal allVector allPage allRead
 zero-read binary32 = refl
 zero-read binary64 = refl
 
--- its only vector, and one that a page of no values has not
+-- its only vector, read alone
 pub zero-vector-read : (fmt : Format) → readVectorOf fmt 0 1 (zeroPage fmt) ≡ done (0 ∷ [])
 unfolding allDigits allDecimal allVector allPage allRead allReadVector
 zero-vector-read binary32 = refl

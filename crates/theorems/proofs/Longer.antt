@@ -1,7 +1,7 @@
 -- A byte list longer than any page is refused, and its first bytes decide by which row: so a file need not be read further. Assumes nothing.
 use mathlib.Core.Path.{_≡_, refl, sym, ap, ap₂, _∙_}
 use Prim.Native.Nat.{ℕ, zero, suc, _+_, _-_, _*_, _/_, _^_, _<_, _≤_, min, zero-le}
-use native.Mathlib.Nat.{le-trans, le-of-eq, le-of-lt, lt-of-le-of-lt, lt-of-lt-of-le, lt-of-not-le, suc-mul, mul-comm, mul-le-mul-left, mul-le-mul-right, div-lt-iff-lt-mul}
+use native.Mathlib.Nat.{le-trans, le-of-eq, le-of-lt, lt-of-le-of-lt, lt-of-lt-of-le, lt-of-not-le, suc-mul, mul-add, mul-comm, mul-le-mul-left, mul-le-mul-right, div-lt-iff-lt-mul}
 use native.Mathlib.Decide.{decLe}
 use native.Mathlib.Omega.{arith}
 use mathlib.Core.Bool.{false}
@@ -15,6 +15,7 @@ use borrow.Author.Tests.{ltb-false, lt-ltb, le-ltb}
 use Rattle.digits.specs.Digits.{number, numbers, packedSize}
 use Rattle.digits.proofs.Rows.{length-numbers}
 use Rattle.rules.specs.Kind.{minS, maxValues, maxExponent, wordBits, wordBytes, metaBytes}
+use Rattle.rules.specs.Vector.{Raw}
 use Rattle.rules.specs.Page.{Meta, vectors, vectorSize, sOf, countOf, vectorsOf, offsetsOf, bodyOf, metaAt, rawFrom, rawsOf}
 use Rattle.rules.specs.Verdict.{Verdict, fine, refuse, first, verdict, row, the-page, in-vector, _below_, _above_, _isnt_, settle, answer, after}
 use Rattle.rules.specs.Read.{headRows, offsetsRow, metaRows, positionsRows, listRows, Cursor, here, next, start, vectorRows, vectorsRows, pageRows, valuesOf, readOf, readRows}
@@ -56,7 +57,7 @@ number-same at k xs ys h =
     let b : take k (drop at xs ++ ys) ≡ take k (drop at xs) = take-append-le k (drop at xs) ys (rw length-drop (omega arith)) in
     ap number (ap (take k) a ∙ b)
 
-pub numbers-same : (k c : ℕ) (xs ys : List ℕ) → c * k ≤ length xs → numbers k c (xs ++ ys) ≡ numbers k c xs
+numbers-same : (k c : ℕ) (xs ys : List ℕ) → c * k ≤ length xs → numbers k c (xs ++ ys) ≡ numbers k c xs
 unfolding numbers
 numbers-same k zero xs ys h = refl
 numbers-same k (suc c) xs ys h =
@@ -83,6 +84,27 @@ meta-same fmt part behind l =
     let r = number-same 4 (wordBytes fmt) part behind (omega arith) in
     let w = at-front part behind (4 + wordBytes fmt) (omega arith) in
     λ i. record { pair = record { exponent = e i; factor = f i }; listed = c i; frame = r i; width = w i }
+
+-- what is read of a vector stands in as many bytes as it has
+pub raw-same : (fmt : Format) (n : ℕ) (m : Meta) (part behind : List ℕ) → vectorSize fmt n m ≤ length part
+    → rawFrom fmt n m (drop (metaBytes fmt) (part ++ behind)) ≡ rawFrom fmt n m (drop (metaBytes fmt) part)
+unfolding rawFrom
+raw-same fmt n m part behind s =
+    let k : ℕ = packedSize n (m .width) in
+    let payload : List ℕ = drop (metaBytes fmt) part in
+    let lists : List ℕ = drop k payload in
+    let stored : List ℕ = drop (m .listed * 2) lists in
+    let e = mul-add (m .listed) 2 (wordBytes fmt) in
+    let lp = length-drop (metaBytes fmt) part in
+    let ll = length-drop k payload in
+    let ls = length-drop (m .listed * 2) lists in
+    let a : drop (metaBytes fmt) (part ++ behind) ≡ payload ++ behind = drop-append-le (metaBytes fmt) part behind (omega arith) in
+    let b : drop k (payload ++ behind) ≡ lists ++ behind = drop-append-le k payload behind (omega arith) in
+    let c : drop (m .listed * 2) (lists ++ behind) ≡ stored ++ behind = drop-append-le (m .listed * 2) lists behind (omega arith) in
+    let packed : take k (payload ++ behind) ≡ take k payload = take-append-le k payload behind (omega arith) in
+    let positions : numbers 2 (m .listed) (lists ++ behind) ≡ numbers 2 (m .listed) lists = numbers-same 2 (m .listed) lists behind (omega arith) in
+    let exceptions : numbers (wordBytes fmt) (m .listed) (stored ++ behind) ≡ numbers (wordBytes fmt) (m .listed) stored = numbers-same (wordBytes fmt) (m .listed) stored behind (omega arith) in
+    rw (a, b, c, packed, positions, exceptions)
 
 abbrev most : Format → ℕ → ℕ
 most fmt n = metaBytes fmt + n * (2 * wordBytes fmt + 2)
@@ -123,14 +145,8 @@ module _ (fmt : Format) (v n : ℕ) (m : Meta) (part behind : List ℕ) (long : 
           rw (le-ltb (length (part ++ behind)) (vectorSize fmt n m) (le-trans s (longer part behind)), le-ltb (length part) (vectorSize fmt n m) s)
 
   list-rows-same : vectorSize fmt n m ≤ length part → verdict (listRows fmt v n m (part ++ behind)) ≡ verdict (listRows fmt v n m part)
-  unfolding listRows rawFrom
-  list-rows-same s =
-      let k : ℕ = packedSize n (m .width) in
-      let payload : List ℕ = drop (metaBytes fmt) part in
-      let a : drop (metaBytes fmt) (part ++ behind) ≡ payload ++ behind = drop-append-le (metaBytes fmt) part behind (omega arith) in
-      let b : drop k (payload ++ behind) ≡ drop k payload ++ behind = drop-append-le k payload behind (rw length-drop (omega arith)) in
-      let c : numbers 2 (m .listed) (drop k payload ++ behind) ≡ numbers 2 (m .listed) (drop k payload) = numbers-same 2 (m .listed) (drop k payload) behind (simp length-drop (omega arith)) in
-      ap (λ (ps : List ℕ). verdict (positionsRows v n (record { index = 0; low = 0 }) ps)) (ap (numbers 2 (m .listed)) (ap (drop k) a ∙ b) ∙ c)
+  unfolding listRows
+  list-rows-same s = ap (λ (r : Raw). verdict (positionsRows v n (record { index = 0; low = 0 }) (r .positions))) (raw-same fmt n m part behind s)
 
 vector-rows-same : (fmt : Format) (size : ℕ) (c : Cursor) (o : ℕ) (m : Meta) (part behind : List ℕ) → most fmt (here size c) ≤ length part
     → verdict (vectorRows fmt size c o m (part ++ behind)) ≡ verdict (vectorRows fmt size c o m part)

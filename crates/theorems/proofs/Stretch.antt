@@ -1,12 +1,12 @@
 -- One vector of a page that the reader accepts: it lies where the offsets say, its own rows pass, and its values are a stretch of the page's.
 -- Assumes nothing.
-use mathlib.Core.Path.{_≡_, refl, sym, ap, ap₂, _∙_, subst}
+use mathlib.Core.Path.{_≡_, refl, sym, ap, _∙_}
 use mathlib.Core.List.{List, [], _∷_, _++_, map, append-nil}
 use Prim.Native.Nat.{ℕ, zero, suc, _+_, _-_, _*_, _^_, _<_, _≤_, min}
-use native.Mathlib.Nat.{suc-mul, zero-mul, sub-zero, suc-inj, le-of-suc-le-suc, lt-of-not-le}
+use native.Mathlib.Nat.{suc-mul, zero-mul, le-of-suc-le-suc, lt-of-not-le}
 use native.Mathlib.Decide.{decLe}
 use native.Mathlib.Omega.{arith}
-use lib.ListN.{length, take, drop, getD, length-append, length-drop}
+use lib.ListN.{length, take, drop, getD, length-append, length-drop, drop-of-length-le}
 use lib.Seq.{drop-drop, take-at, take-all, drop-append-add}
 use lib.Ieee.{Format}
 use borrow.Author.Tests.{ltb-false, lt-ltb, le-ltb}
@@ -15,8 +15,8 @@ use Rattle.digits.proofs.Rows.{length-numbers}
 use Rattle.rules.specs.Kind.{metaBytes}
 use Rattle.rules.specs.Vector.{Raw, decoded}
 use Rattle.rules.specs.Page.{Meta, vectorSize, metaAt, rawFrom, rawsFrom, rawsOf, sOf, countOf, vectorsOf, offsetsOf, bodyOf}
-use Rattle.rules.specs.Verdict.{fine, verdict, row, the-page, in-vector, _below_, _above_, _isnt_, done}
-use Rattle.rules.specs.Read.{headRows, offsetsRow, metaRows, listRows, Cursor, here, next, start, vectorRows, vectorsRows, pageRows, valuesOf, readOf}
+use Rattle.rules.specs.Verdict.{fine, verdict, the-page, in-vector, _above_, _isnt_, done}
+use Rattle.rules.specs.Read.{offsetsRow, metaRows, listRows, Cursor, here, next, start, vectorRows, vectorsRows, pageRows, valuesOf, readOf}
 use Rattle.rules.specs.ReadVector.{valuesIn, spanOf, partFrom, numberRows, aloneRows, readVectorRows, vectorValues, readVectorOf}
 use Rattle.rules.proofs.Pages.{Cut}
 use Rattle.rules.proofs.Rows.{row-fine, row-first, first-fine, is, isnt-false}
@@ -26,10 +26,6 @@ use Rattle.rules.proofs.Decoded.{decoded-count, joined-count, raws-count, raws-
 use Rattle.theorems.proofs.Done.{settled, halves}
 
 -- ---- values: the vectors of a column that is cut give it stretch by stretch
-
-nothing : (l : List ℕ) → length l ≡ 0 → l ≡ []
-nothing [] e = refl
-nothing (x ∷ l) e = absurd (omega (arith, e))
 
 module _ (fmt : Format) (size : ℕ) where
   -- the first: all it gives, and no more, lies in the first `size` places
@@ -43,7 +39,7 @@ module _ (fmt : Format) (size : ℕ) where
           last h =
               let none : length rest ≡ 0 = many ∙ omega arith in
               let n = length-append (decoded fmt r) rest in
-              take-all size (decoded fmt r ++ rest) (omega (arith, count, none, n)) ∙ ap (λ (l : List ℕ). decoded fmt r ++ l) (nothing rest none) ∙ append-nil (decoded fmt r)
+              take-all size (decoded fmt r ++ rest) (omega (arith, count, none, n)) ∙ ap (λ (l : List ℕ). decoded fmt r ++ l) (drop-of-length-le rest {i = 0} (omega (arith, none))) ∙ append-nil (decoded fmt r)
 
   pub stretch : (left v : ℕ) (rs : List Raw) (d : Raw) → Cut size left rs → v < length rs → take size (drop (v * size) (join (map (decoded fmt) rs))) ≡ decoded fmt (getD rs v d)
   stretch left v [] d c h = absurd (omega (arith, h))

@@ -2,7 +2,6 @@
 use mathlib.Core.Path.{_≡_, ap, _∙_}
 use mathlib.Core.List.{List}
 use Prim.Native.Nat.{ℕ, _*_}
-use native.Mathlib.Omega.{arith}
 use lib.Ieee.{Format}
 use denote.Ref.{now}
 use Rattle.rules.specs.Verdict.{fine, verdict}

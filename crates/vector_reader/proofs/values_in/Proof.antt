@@ -3,7 +3,7 @@ use mathlib.Core.Path.{_≡_, ap, ap₂, _∙_}
 use Prim.Native.Nat.{ℕ, _-_, _*_, _^_, min}
 use native.Mathlib.Omega.{arith}
 use denote.Ref.{now}
-use Rattle.rules.specs.Page.{sOf, countOf}
+use Rattle.rules.specs.Page.{sOf}
 use Rattle.rules.proofs.ReadingVector.{number-fine, values-before}
 use borrow.Author.Needs.{needs}
 use Rattle.vector_reader.proofs.values_in.Statement.{statement}
