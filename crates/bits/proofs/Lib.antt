@@ -1,2 +1,5 @@
 -- What the proofs of several functions share.
 pub mod Laws
+pub mod WholeWords
+pub mod Room
+pub mod Zeros

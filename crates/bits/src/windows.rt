@@ -1,36 +1,43 @@
-// Packed fields read: bit 0 is the lowest of the first byte, and field i of width w is the w bits from bit i * w on.
+// Packed fields read: bit 0 is the lowest of the first byte, and field i of width w is the w bits from bit i * w on. They are fetched from
+// whole words of the bytes that are lent, never from beyond them.
+use crate::runs::eight_each32;
+use crate::runs::eight_each64;
+use crate::runs::nine_each64;
+use crate::runs::roomy;
+use crate::runs::zeros32;
+use crate::runs::zeros64;
+use crate::words::joined;
+use crate::words::mask_of;
+use crate::words::word_at;
 ghost use mathlib.Core.Path.{_≡_};
 ghost use Prim.Native.Nat.{_+_, _*_, _/_, _%_, _^_, _≤_, _<_};
-ghost use lib.ListN.{length};
+ghost use lib.ListN.{length, take};
 ghost use lib.Dec.{ltb};
 ghost use Rattle.digits.specs.Digits.{number, packedSize, unpack};
 
-// The `width` bits from bit `start` on, as a number. The loop takes the highest bit first, so that each turn doubles and adds. It counts
-// bits from the byte where the window starts, since start + j could pass the largest usize.
+// The `width` bits from bit `start` on, as a number. A window that a word from its first byte on does not hold reaches into a ninth byte.
 pub fn window(bytes: &[u8], start: usize, width: usize) -> u64
     requires { ⌜ (width ≤ 64) × (start + width ≤ 8 * length (now bytes)) ⌝ }
     ensures { λ r. ⌜ r ≡ number (now (bytes .entry)) / 2 ^ start % 2 ^ width ⌝ }
 {
     let first = start / 8;
     let skip = start % 8;
-    let mut acc: u64 = 0;
-    let mut j = width;
-    while 0 < j {
-        j -= 1;
-        let k = skip + j;
-        let b = bytes[first + k / 8];
-        acc = acc * 2 + ((b >> (k % 8)) % 2) as u64;
+    let mask = mask_of(width);
+    let word = word_at(bytes, first);
+    if skip + width <= 64 {
+        return (word >> skip) & mask;
     }
-    acc
+    let ninth = bytes[first + 8];
+    joined(word, ninth, skip) & mask
 }
 
-// As many fields as `out` has places: the caller lends exactly those. They are fewer than 2 ^ 32, so that a usize counts their bits.
-pub fn unpack32(packed: &[u8], width: usize, out: &mut [u32])
-    requires { ⌜ (width ≤ 32) × (length (now out) < 2 ^ 32) × (length (now out) * width ≤ 8 * length (now packed)) ⌝ }
+// The fields from number `from` on, each with a test of what is left of the bytes: the last few.
+fn last32(packed: &[u8], width: usize, from: usize, out: &mut [u32])
+    requires { ⌜ (width ≤ 32) × (length (now out) < 2 ^ 32) × (length (now out) * width ≤ 8 * length (now packed)) × (from ≤ length (now out)) × (take from (now out) ≡ unpack width from (now packed)) ⌝ }
     ensures { λ _. ⌜ now (out .exit) ≡ unpack width (length (now (out .entry))) (now (packed .entry)) ⌝ }
 {
-    let mut i: usize = 0;
-    let mut start: usize = 0;
+    let mut i = from;
+    let mut start = width * from;
     while i < out.len() {
         out[i] = window(packed, start, width) as u32;
         start += width;
@@ -38,18 +45,51 @@ pub fn unpack32(packed: &[u8], width: usize, out: &mut [u32])
     }
 }
 
-// The same into 64-bit places.
-pub fn unpack64(packed: &[u8], width: usize, out: &mut [u64])
-    requires { ⌜ (width ≤ 64) × (length (now out) < 2 ^ 32) × (length (now out) * width ≤ 8 * length (now packed)) ⌝ }
+fn last64(packed: &[u8], width: usize, from: usize, out: &mut [u64])
+    requires { ⌜ (width ≤ 64) × (length (now out) < 2 ^ 32) × (length (now out) * width ≤ 8 * length (now packed)) × (from ≤ length (now out)) × (take from (now out) ≡ unpack width from (now packed)) ⌝ }
     ensures { λ _. ⌜ now (out .exit) ≡ unpack width (length (now (out .entry))) (now (packed .entry)) ⌝ }
 {
-    let mut i: usize = 0;
-    let mut start: usize = 0;
+    let mut i = from;
+    let mut start = width * from;
     while i < out.len() {
         out[i] = window(packed, start, width);
         start += width;
         i += 1;
     }
+}
+
+// As many fields as `out` has places: the caller lends exactly those. They are fewer than 2 ^ 32, so that a usize counts their bits.
+pub fn unpack32(packed: &[u8], width: usize, out: &mut [u32])
+    requires { ⌜ (width ≤ 32) × (length (now out) < 2 ^ 32) × (length (now out) * width ≤ 8 * length (now packed)) ⌝ }
+    ensures { λ _. ⌜ now (out .exit) ≡ unpack width (length (now (out .entry))) (now (packed .entry)) ⌝ }
+{
+    if width == 0 {
+        zeros32(out);
+        return;
+    }
+    let ready = roomy(out.len(), width, 8);
+    eight_each32(packed, width, &mut out[0..ready]);
+    last32(packed, width, ready, out);
+}
+
+// The same into 64-bit places.
+pub fn unpack64(packed: &[u8], width: usize, out: &mut [u64])
+    requires { ⌜ (width ≤ 64) × (length (now out) < 2 ^ 32) × (length (now out) * width ≤ 8 * length (now packed)) ⌝ }
+    ensures { λ _. ⌜ now (out .exit) ≡ unpack width (length (now (out .entry))) (now (packed .entry)) ⌝ }
+{
+    if width == 0 {
+        zeros64(out);
+        return;
+    }
+    if width <= 57 {
+        let ready = roomy(out.len(), width, 8);
+        eight_each64(packed, width, &mut out[0..ready]);
+        last64(packed, width, ready, out);
+        return;
+    }
+    let ready = roomy(out.len(), width, 9);
+    nine_each64(packed, width, &mut out[0..ready]);
+    last64(packed, width, ready, out);
 }
 
 // Whether the unused bits, those of the last byte behind `count` fields, are 0.

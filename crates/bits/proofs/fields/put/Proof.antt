@@ -1,5 +1,5 @@
 -- `fields::put` meets its contract: the low bits of v join the byte where v starts, the rest goes above. Assumes nothing.
-use mathlib.Core.Path.{_≡_, sym, ap, _∙_}
+use mathlib.Core.Path.{_≡_, ap, _∙_}
 use mathlib.Core.List.{List}
 use Prim.Native.Nat.{ℕ, _+_, _-_, _*_, _/_, _%_, _^_, _≤_, _<_}
 use native.Mathlib.Nat.{div-add-mod, zero-mul, zero-add, lt-of-le-of-lt}

@@ -1,84 +1,86 @@
--- `windows::unpack32` meets its contract: `Unpacking` says how far the loop has come. Assumes nothing.
-use Rattle.digits.specs.Digits.{number}
-use Rattle.digits.proofs.Windows.{window-lt}
-use Prim.Native.Nat.{_-_}
+-- `windows::unpack32` meets its contract: the fields that have whole words stand in the part that was lent for them, and the loop behind goes
+-- on from there. Assumes nothing.
+use mathlib.Core.Path.{_≡_, ap, sym, _∙_}
+use Prim.Native.Nat.{ℕ}
 use native.Mathlib.Omega.{arith}
 use lib.ListN.{length}
 use denote.Ref.{now}
-use Rattle.digits.proofs.Fields.{Unpacking, unpacking-start, unpacking-next, unpacking-end, start-room, start-fits}
+use Rattle.digits.specs.Digits.{unpack}
+use Rattle.bits.proofs.Zeros.{no-bits}
+use Rattle.bits.proofs.Room.{part-few, part-room, behind-ready, all-fetched}
+use borrow.Author.Needs.{needs}
 use Rattle.bits.proofs.windows.unpack32.Statement.{statement}
 use Rattle.bits.proofs.windows.unpack32.Tie as tie
 use Rattle.bits.proofs.windows.unpack32.Reads as reads
 use Rattle.bits.proofs.windows.unpack32.Lts as lts
-use Rattle.bits.proofs.windows.window.Reads as window-reads
+use Rattle.bits.proofs.runs.eight_each32.Reads as eight-each32-reads
+use Rattle.bits.proofs.runs.roomy.Reads as roomy-reads
+use Rattle.bits.proofs.runs.zeros32.Reads as zeros32-reads
+use Rattle.bits.proofs.windows.last32.Reads as last32-reads
 
-abbrev Inv-loop : tie.InvT-loop
-Inv-loop packed width out₀ i₀ start₀ out i start = Unpacking width packed out₀ i start out
+zeros32-requires : tie.Need-zeros32-requires
+zeros32-requires c κs = search needs
 
-abbrev μ-loop : tie.MeasureT-loop
-μ-loop packed width out₀ i₀ start₀ out i start = length out₀ - i
+same-length : tie.Need-same-length
+same-length c = search needs
 
-loop-holds : tie.Need-loop-holds Inv-loop μ-loop
-loop-holds c = unpacking-start (c .before .before .args .width) (now (c .before .before .args .packed)) (now (c .before .before .args .out))
-
-window-requires : tie.Need-window-requires Inv-loop μ-loop
-window-requires c κs =
-    let l = c .before .loop in
-    let a = c .before .before .before .before .args in
-    omega (arith, start-room (a .width) (l .i) (l .start) (l .inv .from) (length (now (a .out))) (omega arith))
-
-cast-out : tie.Need-cast-out Inv-loop μ-loop
-cast-out c =
-    let a = c .before .before .before .before .before .args in
-    omega (arith, c .window .ensures, window-lt (number (now (a .packed))) (c .before .before .loop .start) (a .width) 32 (omega arith))
-
-mul-out : tie.Need-mul-out Inv-loop μ-loop
-mul-out c = omega arith
-
-slice-write-out : tie.Need-slice-write-out Inv-loop μ-loop
-slice-write-out c = omega arith
-
-add-start : tie.Need-add-start Inv-loop μ-loop
-add-start c =
-    let l = c .before .before .loop in
-    let a = c .before .before .before .before .before .args in
-    omega (arith, start-fits (a .width) (l .i) (l .start) (l .inv .from) (length (now (a .out))) (omega arith) (omega arith) (omega arith))
-
-add-i : tie.Need-add-i Inv-loop μ-loop
-add-i c = omega arith
-
-loop-less : tie.Need-loop-less Inv-loop μ-loop
-loop-less c = omega arith
-
-loop-again : tie.Need-loop-again Inv-loop μ-loop
-loop-again c =
-    let l = c .before .before .loop in
-    let a = c .before .before .before .before .before .args in
-    unpacking-next (a .width) (now (a .packed)) (now (a .out)) (l .i) (l .start) (l .out) (l .inv) (c .window .result) (omega arith) (c .window .ensures)
-
-same-length : tie.Need-same-length Inv-loop μ-loop
-same-length c = c .before .loop .inv .same
-
-returns : tie.Need-returns Inv-loop μ-loop
+returns : tie.Need-returns
 returns c =
-    let l = c .before .loop in
-    let a = c .before .before .before .before .args in
-    unpacking-end (a .width) (now (a .packed)) (now (a .out)) (l .i) (l .start) (l .out) (l .inv) (omega arith)
+    let a = c .before .before .before .before .before .before .before .args in
+    let none : a .width ≡ 0 = omega arith in
+    c .before .before .zeros32 .ensures ∙ sym (ap (λ (w : ℕ). unpack w (length (now (a .out))) (now (a .packed))) none ∙ no-bits (length (now (a .out))) (now (a .packed)))
+
+roomy-requires : tie.Need-roomy-requires
+roomy-requires c κs = search needs
+
+sub-eight-each32 : tie.Need-sub-eight-each32
+sub-eight-each32 c = search needs
+
+part-eight-each32-start : tie.Need-part-eight-each32-start
+part-eight-each32-start c = search needs
+
+part-eight-each32-end : tie.Need-part-eight-each32-end
+part-eight-each32-end c = search needs
+
+eight-each32-requires : tie.Need-eight-each32-requires
+eight-each32-requires c κs =
+    let s = c .before .before .before .before .before in
+    let n = c .before .roomy in (
+      omega arith,
+      part-few (s .args .width) (now (s .args .packed)) (now (s .args .out)) (n .result) (s .pre .1) (s .pre .2) (n .ensures .0),
+      part-room (s .args .width) (now (s .args .packed)) (now (s .args .out)) (n .result) (s .pre .1) (s .pre .2) (n .ensures .0) 8 (n .ensures .1),
+    )
+
+last32-requires : tie.Need-last32-requires
+last32-requires c κs =
+    let s = c .before .before .before .before .before .before .before .before .before in
+    let n = c .before .before .before .before .before .roomy in
+    let u = c .before .before .before .eight-each32 in
+    behind-ready (s .args .width) (now (s .args .packed)) (now (s .args .out)) (n .result) (s .pre .1) (s .pre .2) (n .ensures .0) (u .last .1 .1 .0) (u .ensures) 32 (s .pre .0)
+
+same-length-2 : tie.Need-same-length-2
+same-length-2 c = search needs
+
+returns-2 : tie.Need-returns-2
+returns-2 c =
+    let s = c .before .before .before .before .before .before .before .before .before .before .before .before in
+    let n = c .before .before .before .before .before .before .before .before .roomy in
+    let u = c .before .before .before .before .before .before .eight-each32 in
+    let v = c .before .before .last32 in
+    all-fetched (s .args .width) (now (s .args .packed)) (now (s .args .out)) (n .result) (s .pre .1) (s .pre .2) (n .ensures .0) (u .last .1 .1 .0) (u .ensures) (v .last .1 .1 .1 .0) (v .ensures)
 
 pub unpack32-spec : {M : Type 1} → statement M
 unpack32-spec =
     tie.close
     (tie.spec
-    Inv-loop
-    μ-loop
-    loop-holds
-    window-requires
-    cast-out
-    mul-out
-    slice-write-out
-    add-start
-    add-i
-    loop-less
-    loop-again
+    zeros32-requires
     same-length
-    returns)
+    returns
+    roomy-requires
+    sub-eight-each32
+    part-eight-each32-start
+    part-eight-each32-end
+    eight-each32-requires
+    last32-requires
+    same-length-2
+    returns-2)
