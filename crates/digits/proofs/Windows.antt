@@ -2,11 +2,11 @@
 use mathlib.Core.Path.{_≡_, sym, ap, ap₂, _∙_, subst}
 use mathlib.Core.List.{List}
 use Prim.Native.Nat.{ℕ, zero, suc, _+_, _-_, _*_, _/_, _%_, _^_, _≤_, _<_}
-use native.Mathlib.Nat.{mod-lt, add-zero, mul-zero, mul-assoc, add-assoc, add-mul, mul-suc, div-add-mod, mod-eq-of-lt, div-eq-of-lt, lt-of-le-of-lt, lt-of-lt-of-le, le-trans, mul-comm, le-of-eq, mul-le-mul-right, mul-div-cancel, mul-mod-left, add-comm, one-mul, zero-lt-suc, le-div-iff-mul-le, div-add-mod', div-mul-le-self, mod-le}
+use native.Mathlib.Nat.{mod-lt, add-zero, mul-assoc, add-assoc, add-mul, mul-suc, div-add-mod, mod-eq-of-lt, div-eq-of-lt, lt-of-le-of-lt, lt-of-lt-of-le, le-trans, mul-comm, le-of-eq, mul-le-mul-right, mul-div-cancel, mul-mod-left, add-comm, one-mul, le-div-iff-mul-le, div-add-mod', div-mul-le-self, mod-le}
 use native.Mathlib.Decide.{decLt}
 use native.Mathlib.Omega.{arith}
 use lib.Arith.{digits-lt}
-use lib.Dec.{eqb, ltb, lit<}
+use lib.Dec.{eqb, ltb}
 use borrow.Author.Tests.{lt-ltb, le-ltb, ne-eqb}
 use mathlib.Core.Logic.{_⊎_, inl, inr, ⊎-elim}
 use lib.ListN.{getD, take, drop}
@@ -21,11 +21,6 @@ next-le w i n h = le-trans (le-of-eq (sym (mul-suc w i) ∙ mul-comm w (suc i)))
 -- `1 << k` of a u64
 pub one-shl : (k : ℕ) → k < 64 → (1 * 2 ^ k) % 2 ^ 64 ≡ 2 ^ k
 one-shl k h = ap (λ (x : ℕ). x % 2 ^ 64) (one-mul (2 ^ k)) ∙ mod-eq-of-lt (pow-lt h)
-
--- where there is a packed byte, the width is not 0
-pub width-pos : (n w p : ℕ) → p < (n * w + 7) / 8 → zero < w
-width-pos n zero p h = let e : n * 0 ≡ 0 = mul-zero n in omega arith
-width-pos n (suc w) p h = zero-lt-suc w
 
 -- ---- windows of a number: N / 2 ^ p % 2 ^ m is the m bits from p on
 
@@ -113,19 +108,6 @@ pub bit-of : (u : ℕ) (xs : List ℕ) (k : ℕ) → zero < u → Below (2 ^ u) 
 bit-of u xs k hu h =
     let l : k % u < u = mod-lt k hu in
     window-of u xs (k / u) (k % u) 1 h (omega arith) ∙ ap (λ (x : ℕ). ofDigits (2 ^ u) xs / 2 ^ x % 2) (div-add-mod k u)
-
--- bit start + j of some bytes, where the byte of bit `start` is taken apart from the rest
-pub bit-apart : (bs : List ℕ) (start j : ℕ) → Below 256 bs → getD bs (start / 8 + (start % 8 + j) / 8) 0 / 2 ^ ((start % 8 + j) % 8) % 2 ≡ ofDigits 256 bs / 2 ^ (start + j) % 2
-bit-apart bs start j h =
-    let q : start / 8 + (start % 8 + j) / 8 ≡ (start + j) / 8 = omega arith in
-    let r : (start % 8 + j) % 8 ≡ (start + j) % 8 = omega arith in
-    ap₂ (λ (x y : ℕ). getD bs x 0 / 2 ^ y % 2) q r ∙ bit-of 8 bs (start + j) (lit< tt) h
-
--- a window, from the one that starts a bit later
-pub horner : (N p p′ m m′ : ℕ) {a d : ℕ} → p′ ≡ p + 1 → m′ ≡ m + 1 → a ≡ N / 2 ^ p′ % 2 ^ m → d ≡ N / 2 ^ p % 2 → a * 2 + d ≡ N / 2 ^ p % 2 ^ m′
-horner N p p′ m m′ ep em ea ed =
-    ap₂ (λ (x y : ℕ). x * 2 + y) (ea ∙ ap (λ (x : ℕ). N / 2 ^ x % 2 ^ m) ep ∙ ap (λ (x : ℕ). x % 2 ^ m) (sym (shr-shr N p 1))) ed
-    ∙ sym (ap (λ (x : ℕ). N / 2 ^ p % 2 ^ x) em ∙ mod-pow-add (N / 2 ^ p) m 1)
 
 -- ---- a field put at bit 8 * q + r
 
