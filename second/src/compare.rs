@@ -14,6 +14,7 @@ use crate::random::Random;
 use crate::read::{parse_header, read};
 use crate::read_vector::read_vector;
 use crate::tally::Tally;
+use crate::widths::{page_at, COUNTS};
 
 /// A request and where it comes from.
 struct Case {
@@ -21,6 +22,14 @@ struct Case {
     request: Request,
     /// Whether a vector is asked of a page that the reader refuses.
     faulty: bool,
+    /// The width of the fields, where the page was made for it.
+    width: Option<usize>,
+}
+
+impl Case {
+    fn of(origin: &str, request: Request) -> Case {
+        Case { origin: origin.into(), request, faulty: false, width: None }
+    }
 }
 
 /// Requests that the other program is at work on.
@@ -41,6 +50,7 @@ const BATCH_BYTES: usize = 4_000_000;
 const COLUMNS: u64 = 1;
 const PAGES: u64 = 2;
 const WORN: u64 = 3;
+const WIDTHS: u64 = 4;
 
 /// A comparison with one program, and what it has found so far.
 pub struct Comparison<'a> {
@@ -139,6 +149,29 @@ impl<'a> Comparison<'a> {
         self.finish()
     }
 
+    /// Compares pages at every width of each kind, short ones and long ones:
+    /// read, whole and by vectors, and examined.
+    pub fn widths(&mut self, seed: u64) -> Result<(), String> {
+        for kind in KINDS {
+            for width in 0..=kind.bits() {
+                for count in COUNTS {
+                    let index = (kind.bits() * 100 + width) as u64 * 10_000 + count as u64;
+                    let mut random = Random::of_case(seed, WIDTHS, index);
+                    let page = page_at(kind, width, count, &mut random);
+                    let origin = format!("seed {seed}, width {width}, {count} values");
+                    let output = lend(kind, count + random.below(9), &mut random);
+                    let request = Request::Read { kind, page: page.clone(), output };
+                    let case = Case::of(&origin, request);
+                    self.put_case(Case { width: Some(width), ..case })?;
+                    let questions = every(&page, &mut random);
+                    self.ask(&origin, kind, &page, questions, &mut random)?;
+                    self.put(&origin, Request::Examine { kind, page })?;
+                }
+            }
+        }
+        self.finish()
+    }
+
     /// Asks for vectors of a page.
     fn ask(
         &mut self,
@@ -152,7 +185,7 @@ impl<'a> Comparison<'a> {
         for Question { number, room } in questions {
             let output = lend(kind, room, random);
             let request = Request::ReadVector { kind, page: page.to_vec(), number, output };
-            self.put_case(Case { origin: origin.into(), request, faulty: !accepted })?;
+            self.put_case(Case { faulty: !accepted, ..Case::of(origin, request) })?;
         }
         Ok(())
     }
@@ -177,7 +210,7 @@ impl<'a> Comparison<'a> {
 
     /// Puts a request into the batch.
     fn put(&mut self, origin: &str, request: Request) -> Result<(), String> {
-        self.put_case(Case { origin: origin.into(), request, faulty: false })
+        self.put_case(Case::of(origin, request))
     }
 
     fn put_case(&mut self, case: Case) -> Result<(), String> {
@@ -229,6 +262,9 @@ impl<'a> Comparison<'a> {
         self.tally.count(case.request.call(), case.request.kind(), own.0);
         if case.faulty && own.0.is_ok() {
             self.tally.count_spared(case.request.kind());
+        }
+        if let (Some(width), true) = (case.width, own.0.is_ok()) {
+            self.tally.count_width(case.request.kind(), width);
         }
         if other != Some(&own.1) {
             self.report(&describe(case, own, other));

@@ -11,7 +11,8 @@
 //! - `write`, `read`, `examine`, `read_vector`: the calls;
 //! - `frames`: requests and answers as bytes, and the serving side;
 //! - `driver`: runs another program and talks to it in frames;
-//! - `random`, `columns`, `forge`, `ask`: what the programs are compared on;
+//! - `random`, `columns`, `forge`, `widths`, `ask`: what the programs are
+//!   compared on;
 //! - `tally`: which refusals were met, and which are missing;
 //! - `compare`: the comparison itself.
 
@@ -29,4 +30,5 @@ pub mod random;
 pub mod read;
 pub mod read_vector;
 pub mod tally;
+pub mod widths;
 pub mod write;

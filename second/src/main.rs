@@ -103,10 +103,11 @@ fn run(options: &Options) -> Result<bool, String> {
     for (turn, seed) in options.seeds.iter().enumerate() {
         let columns = share(options.columns, turn, options.seeds.len());
         let pages = share(options.pages, turn, options.seeds.len());
-        println!("seed     {seed}: {columns} columns, {pages} damaged or forged pages, small ones");
+        println!("seed     {seed}: {columns} columns, {pages} damaged or forged pages, small ones, every width");
         comparison.columns(*seed, columns)?;
         comparison.pages(*seed, pages)?;
         comparison.worn(*seed)?;
+        comparison.widths(*seed)?;
     }
     println!("\n{}", comparison.tally.table());
 

@@ -19,12 +19,18 @@ pub struct Tally {
     refused: Vec<Counts>,
     /// Vectors that were read alone from pages that reading as a whole refuses.
     spared: [u64; KINDS.len()],
+    /// How many pages were read at each width, of those made for it.
+    widths: [[u64; WIDTHS]; KINDS.len()],
 }
+
+/// The widths of the larger kind: 0 to 64.
+const WIDTHS: usize = 65;
 
 impl Default for Tally {
     fn default() -> Tally {
         let refused = vec![Counts::default(); TABLE.len()];
-        Tally { done: Counts::default(), refused, spared: [0; KINDS.len()] }
+        let (spared, widths) = ([0; KINDS.len()], [[0; WIDTHS]; KINDS.len()]);
+        Tally { done: Counts::default(), refused, spared, widths }
     }
 }
 
@@ -44,12 +50,25 @@ impl Tally {
         self.spared[kind as usize] += 1;
     }
 
+    pub fn count_width(&mut self, kind: Kind, width: usize) {
+        self.widths[kind as usize][width] += 1;
+    }
+
+    /// How many pages were read at each width that a kind has.
+    fn widths(&self, kind: Kind) -> &[u64] {
+        &self.widths[kind as usize][..=kind.bits()]
+    }
+
     /// Every line that a call of a kind has never given though it should, and
     /// every vector's line that it has given of no later vector.
     pub fn missing(&self) -> Vec<String> {
         let mut missing = Vec::new();
         for kind in KINDS.into_iter().filter(|kind| self.spared[*kind as usize] == 0) {
             missing.push(format!("a vector of a page that read refuses, {}-bit", kind.bits()));
+        }
+        for kind in KINDS {
+            let never = self.widths(kind).iter().enumerate().filter(|(_, count)| **count == 0);
+            missing.extend(never.map(|(w, _)| format!("width {w} by read, {}-bit", kind.bits())));
         }
         let done = (0, "done", &CALLS[..], false, &self.done);
         let lines = TABLE.iter().zip(&self.refused);
@@ -90,6 +109,10 @@ impl Tally {
             text,
             "vectors done of pages that read refuses: {single} 32-bit, {double} 64-bit"
         );
+        for kind in KINDS {
+            let (pages, most) = (self.widths(kind).iter().sum::<u64>(), kind.bits());
+            let _ = writeln!(text, "pages read at widths 0 to {most}, {most}-bit: {pages}");
+        }
         text
     }
 }
