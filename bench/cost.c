@@ -1,0 +1,133 @@
+/*
+ * One call on one page of 16,384 values, so that its instructions can be counted (bench/run): cost read|vector|examine 32|64 WIDTH.
+ *
+ * The page has 16 vectors of 1,024 whole numbers, each vector with fields of exactly WIDTH bits and no exceptions, which is checked; and what is
+ * read back has to be the column, bit for bit: a count of a call that does something else would mean nothing.
+ */
+#include "strahnuk.h"
+
+#include <stdio.h>
+#include <stdlib.h>
+#include <string.h>
+
+enum { VALUES = 16384, VECTOR = 1024, VECTORS = VALUES / VECTOR, ASKED = 7, HEADER = 8, MOST_BYTES = 400000 };
+
+static uint8_t page[MOST_BYTES];
+static uint32_t column32[VALUES], back32[VALUES];
+static uint64_t column64[VALUES], back64[VALUES];
+
+static void fail(const char *what)
+{
+    fprintf(stderr, "cost: %s\n", what);
+    exit(2);
+}
+
+static size_t done(strahnuk_answer answer, const char *call)
+{
+    if (answer.number != STRAHNUK_DONE) fail(call);
+    return (size_t)answer.place;
+}
+
+/* Numbers without a pattern, the same on every machine: xorshift. */
+static uint64_t any(void)
+{
+    static uint64_t state = 88172645463325252u;
+    state ^= state << 13;
+    state ^= state >> 7;
+    state ^= state << 17;
+    return state;
+}
+
+/*
+ * The whole number at a place, where a vector's fields take `width` bits: its first field is 0 and its second the largest. Above the float's
+ * own `digits` all are multiples of one power of two, so that each is a float exactly.
+ */
+static int64_t whole(unsigned digits, unsigned width, size_t place)
+{
+    uint64_t step, most, field;
+    if (width == 0) return 7;
+    step = width > digits ? (uint64_t)1 << (width - digits) : 1;
+    most = (UINT64_MAX >> (64 - width)) - (2 * step - 1);
+    if (step == 1) most += 1;
+    field = place % VECTOR == 0 ? 0 : place % VECTOR == 1 ? most : any() & most;
+    return (int64_t)(field - ((uint64_t)1 << (width - 1)) + (step == 1 ? 0 : step));
+}
+
+static void make_column(unsigned kind, unsigned width)
+{
+    size_t i;
+    for (i = 0; i < VALUES; i++) {
+        float single;
+        double twice;
+        if (kind == 32) {
+            single = (float)whole(24, width, i);
+            memcpy(&column32[i], &single, sizeof single);
+        } else {
+            twice = (double)whole(53, width, i);
+            memcpy(&column64[i], &twice, sizeof twice);
+        }
+    }
+}
+
+static size_t make_page(unsigned kind)
+{
+    static const uint8_t pairs[2 * VECTORS]; /* exponent 0 and factor 0 for each */
+    return kind == 32 ? done(alp_write32(column32, VALUES, 10, pairs, sizeof pairs, page, sizeof page), "write32")
+                      : done(alp_write64(column64, VALUES, 10, pairs, sizeof pairs, page, sizeof page), "write64");
+}
+
+static uint32_t number_at(const uint8_t *bytes)
+{
+    return (uint32_t)bytes[0] | (uint32_t)bytes[1] << 8 | (uint32_t)bytes[2] << 16 | (uint32_t)bytes[3] << 24;
+}
+
+/* A vector begins with exponent, factor, two bytes of how many exceptions, the frame and the width. */
+static void check_widths(unsigned kind, unsigned width)
+{
+    size_t v;
+    for (v = 0; v < VECTORS; v++) {
+        const uint8_t *vector = page + HEADER + number_at(page + HEADER + 4 * v);
+        if (vector[2] != 0 || vector[3] != 0) fail("the page has exceptions");
+        if (vector[4 + kind / 8] != width) fail("the page has another width");
+    }
+}
+
+static void read_page(unsigned kind, size_t length)
+{
+    if (kind == 32) {
+        done(alp_read32(page, length, back32, VALUES), "read32");
+        if (memcmp(back32, column32, sizeof column32) != 0) fail("the column came back changed");
+    } else {
+        done(alp_read64(page, length, back64, VALUES), "read64");
+        if (memcmp(back64, column64, sizeof column64) != 0) fail("the column came back changed");
+    }
+}
+
+static void read_one_vector(unsigned kind, size_t length)
+{
+    if (kind == 32) {
+        done(alp_read_vector32(page, length, ASKED, back32, VECTOR), "read_vector32");
+        if (memcmp(back32, column32 + ASKED * VECTOR, VECTOR * sizeof *column32) != 0) fail("the vector came back changed");
+    } else {
+        done(alp_read_vector64(page, length, ASKED, back64, VECTOR), "read_vector64");
+        if (memcmp(back64, column64 + ASKED * VECTOR, VECTOR * sizeof *column64) != 0) fail("the vector came back changed");
+    }
+}
+
+int main(int count, char **words)
+{
+    unsigned kind, width;
+    size_t length;
+    if (count != 4) fail("cost read|vector|examine 32|64 WIDTH");
+    kind = (unsigned)atoi(words[2]);
+    width = (unsigned)atoi(words[3]);
+    if ((kind != 32 && kind != 64) || width > kind) fail("no such kind or width");
+    make_column(kind, width);
+    length = make_page(kind);
+    check_widths(kind, width);
+    if (strcmp(words[1], "read") == 0) read_page(kind, length);
+    else if (strcmp(words[1], "vector") == 0) read_one_vector(kind, length);
+    else if (strcmp(words[1], "examine") == 0) done(kind == 32 ? alp_examine32(page, length) : alp_examine64(page, length), "examine");
+    else fail("no such call");
+    return 0;
+}
