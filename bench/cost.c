@@ -39,32 +39,30 @@ static uint64_t any(void)
 }
 
 /*
- * The whole number at a place, where a vector's fields take `width` bits: its first field is 0 and its second the largest. Above the float's
- * own `digits` all are multiples of one power of two, so that each is a float exactly.
+ * The whole number at a place, where a vector's fields take `width` bits: its first field is 0 and its second the largest. Where they are wider
+ * than the float's own `digits`, all are multiples of one power of two, so that each is a float exactly, and inside the limits of the kind.
  */
 static int64_t whole(unsigned digits, unsigned width, size_t place)
 {
-    uint64_t step, most, field;
+    uint64_t half, step, most, field;
     if (width == 0) return 7;
-    step = width > digits ? (uint64_t)1 << (width - digits) : 1;
-    most = (UINT64_MAX >> (64 - width)) - (2 * step - 1);
-    if (step == 1) most += 1;
+    half = (uint64_t)1 << (width - 1);
+    step = width <= digits ? 0 : (uint64_t)1 << (width - digits);
+    most = 2 * half - (width <= digits ? 1 : 2 * step);
     field = place % VECTOR == 0 ? 0 : place % VECTOR == 1 ? most : any() & most;
-    return (int64_t)(field - ((uint64_t)1 << (width - 1)) + (step == 1 ? 0 : step));
+    return (int64_t)(field - half + step);
 }
 
 static void make_column(unsigned kind, unsigned width)
 {
     size_t i;
     for (i = 0; i < VALUES; i++) {
-        float single;
-        double twice;
         if (kind == 32) {
-            single = (float)whole(24, width, i);
-            memcpy(&column32[i], &single, sizeof single);
+            float value = (float)whole(24, width, i);
+            memcpy(&column32[i], &value, sizeof value);
         } else {
-            twice = (double)whole(53, width, i);
-            memcpy(&column64[i], &twice, sizeof twice);
+            double value = (double)whole(53, width, i);
+            memcpy(&column64[i], &value, sizeof value);
         }
     }
 }
