@@ -6,8 +6,8 @@ use crate::runs::nine_each64;
 use crate::runs::roomy;
 use crate::runs::zeros32;
 use crate::runs::zeros64;
-use crate::words::joined;
 use crate::words::mask_of;
+use crate::words::nine_from;
 use crate::words::word_at;
 ghost use mathlib.Core.Path.{_≡_};
 ghost use Prim.Native.Nat.{_+_, _*_, _/_, _%_, _^_, _≤_, _<_};
@@ -20,15 +20,12 @@ pub fn window(bytes: &[u8], start: usize, width: usize) -> u64
     requires { ⌜ (width ≤ 64) × (start + width ≤ 8 * length (now bytes)) ⌝ }
     ensures { λ r. ⌜ r ≡ number (now (bytes .entry)) / 2 ^ start % 2 ^ width ⌝ }
 {
-    let first = start / 8;
     let skip = start % 8;
     let mask = mask_of(width);
-    let word = word_at(bytes, first);
     if skip + width <= 64 {
-        return (word >> skip) & mask;
+        return (word_at(bytes, start / 8) >> skip) & mask;
     }
-    let ninth = bytes[first + 8];
-    joined(word, ninth, skip) & mask
+    nine_from(bytes, start) & mask
 }
 
 // The fields from number `from` on, each with a test of what is left of the bytes: the last few.

@@ -2,7 +2,7 @@
 // bits; a longer one may reach into a ninth byte.
 use crate::numbers::read_u64;
 ghost use mathlib.Core.Path.{_≡_};
-ghost use Prim.Native.Nat.{_+_, _-_, _*_, _/_, _%_, _^_, _≤_, _<_};
+ghost use Prim.Native.Nat.{_+_, _-_, _/_, _%_, _^_, _≤_};
 ghost use lib.ListN.{length, take, drop};
 ghost use Rattle.digits.specs.Digits.{number};
 
@@ -18,15 +18,6 @@ pub fn mask_of(width: usize) -> u64
     }
 }
 
-// The bits of a word from bit `skip` on, with the byte that follows the word above them.
-pub fn joined(word: u64, ninth: u8, skip: usize) -> u64
-    requires { ⌜ skip < 8 ⌝ }
-    ensures { λ r. ⌜ r ≡ word / 2 ^ skip + (ninth * 2 ^ (64 - skip)) % 2 ^ 64 ⌝ }
-{
-    // by two shifts, since one by 64 is none
-    (word >> skip) | ((2 * (ninth as u64)) << (63 - skip))
-}
-
 // The bits from bit `start` on, where 8 bytes are there: 57 of them at least.
 pub fn eight_from(bytes: &[u8], start: usize) -> u64
     requires { ⌜ start / 8 + 8 ≤ length (now bytes) ⌝ }
@@ -35,15 +26,16 @@ pub fn eight_from(bytes: &[u8], start: usize) -> u64
     read_u64(bytes, start / 8) >> (start % 8)
 }
 
-// The 64 bits from bit `start` on, where 9 bytes are there.
+// The 64 bits from bit `start` on, where 9 bytes are there: the ninth goes above the word, by two shifts, since one by 64 is none.
 pub fn nine_from(bytes: &[u8], start: usize) -> u64
     requires { ⌜ start / 8 + 9 ≤ length (now bytes) ⌝ }
     ensures { λ r. ⌜ r ≡ number (now (bytes .entry)) / 2 ^ start % 2 ^ 64 ⌝ }
 {
     let first = start / 8;
+    let skip = start % 8;
     let word = read_u64(bytes, first);
-    let ninth = bytes[first + 8];
-    joined(word, ninth, start % 8)
+    let ninth = bytes[first + 8] as u64;
+    (word >> skip) | ((2 * ninth) << (63 - skip))
 }
 
 // The 8 bytes from byte `at` on, or those that are left, as if zeros followed them.
