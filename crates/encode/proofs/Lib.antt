@@ -7,3 +7,4 @@ pub mod Listed
 pub mod Packed
 pub mod Stored
 pub mod Whole
+pub mod Kept

@@ -5,8 +5,6 @@ use crate::scan::Seen32;
 use crate::scan::Seen64;
 use crate::scan::packed_end32;
 use crate::scan::packed_end64;
-use crate::scan::scan32;
-use crate::scan::scan64;
 use crate::scan::vector_size32;
 use crate::scan::vector_size64;
 use crate::scan::width_of32;
@@ -137,13 +135,13 @@ fn pack32(values: &[u32], scale: Scale32, seen: Seen32, width: usize, out: &mut 
     }
 }
 
-// One vector at the front of `out`, the rest as it came: its size.
-pub fn write_vector64(values: &[u64], scale: Scale64, out: &mut [u8]) -> usize
-    requires { ⌜ Scales64 scale × Short (length (now values)) × (length (bytesOf binary64 (pair64 scale) (now values)) ≤ length (now out)) ⌝ }
+// One vector, of which `seen` is the record, at the front of `out`, the rest as it came: its size.
+pub fn write_vector64(values: &[u64], scale: Scale64, seen: Seen64, out: &mut [u8]) -> usize
+    requires { ⌜ Scales64 scale × Short (length (now values)) × (asSeen64 seen ≡ seenOf (tries binary64 (pair64 scale) (now values)))
+        × (length (bytesOf binary64 (pair64 scale) (now values)) ≤ length (now out)) ⌝ }
     ensures { λ r. ⌜ (r ≡ length (bytesOf binary64 (pair64 scale) (now (values .entry))))
         × (now (out .exit) ≡ over (bytesOf binary64 (pair64 scale) (now (values .entry))) (now (out .entry))) ⌝ }
 {
-    let seen = scan64(values, scale);
     let listed = seen.listed;
     let frame = to_word64(seen.smallest);
     let width = width_of64(seen);
@@ -162,12 +160,12 @@ pub fn write_vector64(values: &[u64], scale: Scale64, out: &mut [u8]) -> usize
     end
 }
 
-pub fn write_vector32(values: &[u32], scale: Scale32, out: &mut [u8]) -> usize
-    requires { ⌜ Scales32 scale × Short (length (now values)) × (length (bytesOf binary32 (pair32 scale) (now values)) ≤ length (now out)) ⌝ }
+pub fn write_vector32(values: &[u32], scale: Scale32, seen: Seen32, out: &mut [u8]) -> usize
+    requires { ⌜ Scales32 scale × Short (length (now values)) × (asSeen32 seen ≡ seenOf (tries binary32 (pair32 scale) (now values)))
+        × (length (bytesOf binary32 (pair32 scale) (now values)) ≤ length (now out)) ⌝ }
     ensures { λ r. ⌜ (r ≡ length (bytesOf binary32 (pair32 scale) (now (values .entry))))
         × (now (out .exit) ≡ over (bytesOf binary32 (pair32 scale) (now (values .entry))) (now (out .entry))) ⌝ }
 {
-    let seen = scan32(values, scale);
     let listed = seen.listed;
     let frame = to_word32(seen.smallest);
     let width = width_of32(seen);

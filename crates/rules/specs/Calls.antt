@@ -8,19 +8,19 @@ use lib.ListN.{length}
 use lib.Dec.{eqb}
 use lib.Ieee.{Format}
 use Rattle.rules.specs.Verdict.{Verdict, fine, refuse, verdict, done-with, refusal, answer, after}
-use Rattle.rules.specs.Write.{settingsRows, bound, writeOf}
+use Rattle.rules.specs.Write.{settingsRows, pageSize, writeOf}
 use Rattle.rules.specs.Read.{readOf}
 use Rattle.rules.specs.ReadVector.{readVectorOf}
 use Rattle.rules.specs.Examine.{examineOf}
 use Rattle.rules.specs.declared.Answer.{Answer}
 
--- the measuring call: the writer's rows less 15, and the room that the writer asks for as place
+-- the measuring call: the writer's rows less 15, and the page's size as place
 abbrev pub measured : Verdict → ℕ → Answer
 measured fine n = done-with n
 measured (refuse a p) n = refusal a p
 
 unfoldable pub measureOf : Format → ℕ → List ℕ → List ℕ → Answer
-measureOf fmt s pairs vs = measured (verdict (settingsRows fmt s pairs vs)) (bound fmt s (length vs))
+measureOf fmt s pairs vs = measured (verdict (settingsRows fmt s pairs vs)) (pageSize fmt s pairs vs)
 
 pub record Measured (fmt : Format) (values : List ℕ) (s : ℕ) (pairs : List ℕ) (r : Answer) : Type 0 where
   pub answer-is : r ≡ measureOf fmt s pairs values

@@ -494,8 +494,8 @@ settings =
     ∷ measures binary64 10 [] (replicate 16385 0x0000000000000000) (refusal 6 the-page)
     -- 16: 16,384 values pass row 6
     ∷ measures binary32 10 [] (replicate 16384 0x00000000) (refusal 16 the-page)
-    -- 16,384 values: 8 + 16 x 13 + 16,384 x 10
-    ∷ measures binary32 10 (replicate 32 0) (replicate 16384 0x00000000) (done-with 164056)
+    -- 16,384 values: 8 + 16 x 4 + 16 x 9
+    ∷ measures binary32 10 (replicate 32 0) (replicate 16384 0x00000000) (done-with 216)
     -- 16: an odd count of bytes
     ∷ writes binary32 10 (0 ∷ 0 ∷ 0 ∷ []) (0x40E00000 ∷ []) 100 (refused 16 the-page)
     -- 16: one pair too few, its exponent above E
@@ -516,26 +516,35 @@ settings =
     ∷ measures binary32 3 (1 ∷ 2 ∷ 11 ∷ 0 ∷ []) (replicate 9 0x40E00000) (refusal 10 (in-vector 0))
     -- 10 before 15: no room
     ∷ writes binary32 3 (1 ∷ 2 ∷ []) (0x40E00000 ∷ []) 0 (refused 10 (in-vector 0))
-    -- 15: one byte below the bound, though the page would fit
-    ∷ writes binary32 10 (0 ∷ 0 ∷ []) (0x40E00000 ∷ 0x40E00000 ∷ []) 40 (refused 15 the-page)
-    -- the bound itself is enough
-    ∷ writes binary32 10 (0 ∷ 0 ∷ []) (0x40E00000 ∷ 0x40E00000 ∷ []) 41
+    -- 15: one byte less than the page has
+    ∷ writes binary32 10 (0 ∷ 0 ∷ []) (0x40E00000 ∷ 0x40E00000 ∷ []) 20 (refused 15 the-page)
+    -- just the page
+    ∷ writes binary32 10 (0 ∷ 0 ∷ []) (0x40E00000 ∷ 0x40E00000 ∷ []) 21
     (done (hex 8 0x01_00_00_0A_02_00_00_00 ++ hex 4 0x04_00_00_00 ++ hex 4 0x00_00_00_00 ++ hex 5 0x07_00_00_00_00))
-    -- and so is more
+    -- more than the page, and one byte below the bound
+    ∷ writes binary32 10 (0 ∷ 0 ∷ []) (0x40E00000 ∷ 0x40E00000 ∷ []) 40
+    (done (hex 8 0x01_00_00_0A_02_00_00_00 ++ hex 4 0x04_00_00_00 ++ hex 4 0x00_00_00_00 ++ hex 5 0x07_00_00_00_00))
+    -- more than the bound
     ∷ writes binary32 10 (0 ∷ 0 ∷ []) (0x40E00000 ∷ 0x40E00000 ∷ []) 50
     (done (hex 8 0x01_00_00_0A_02_00_00_00 ++ hex 4 0x04_00_00_00 ++ hex 4 0x00_00_00_00 ++ hex 5 0x07_00_00_00_00))
     -- 15, 64-bit
-    ∷ writes binary64 10 (0 ∷ 0 ∷ []) (0x401C000000000000 ∷ []) 42 (refused 15 the-page)
+    ∷ writes binary64 10 (0 ∷ 0 ∷ []) (0x401C000000000000 ∷ []) 24 (refused 15 the-page)
+    -- 15: the exceptions count, 6 bytes each
+    ∷ writes binary32 10 (0 ∷ 0 ∷ []) (0x80000000 ∷ 0x7FC00000 ∷ []) 32 (refused 15 the-page)
     -- 15: no values need eight bytes
     ∷ writes binary32 3 [] [] 7 (refused 15 the-page)
     -- 8 bytes for no values
     ∷ measures binary32 3 [] [] (done-with 8)
-    -- 8 + 1 x 13 + 2 x 10
-    ∷ measures binary32 10 (0 ∷ 0 ∷ []) (0x40E00000 ∷ 0x40E00000 ∷ []) (done-with 41)
-    -- 8 + 3 x 13 + 20 x 10
-    ∷ measures binary32 3 (1 ∷ 0 ∷ 0 ∷ 0 ∷ 10 ∷ 10 ∷ []) (replicate 20 0x40E00000) (done-with 247)
-    -- 64-bit, 8 + 3 x 17 + 24 x 18
-    ∷ measures binary64 3 (18 ∷ 0 ∷ 0 ∷ 0 ∷ 18 ∷ 18 ∷ []) (replicate 24 0x401C000000000000) (done-with 491)
+    -- 8 + 4 + 9
+    ∷ measures binary32 10 (0 ∷ 0 ∷ []) (0x40E00000 ∷ 0x40E00000 ∷ []) (done-with 21)
+    -- -1.0 and 1.0: 8 + 4 + 9, and two fields of 2 bits
+    ∷ measures binary32 10 (0 ∷ 0 ∷ []) (0xBF800000 ∷ 0x3F800000 ∷ []) (done-with 22)
+    -- two exceptions: 8 + 4 + 9 + 2 x 6
+    ∷ measures binary32 10 (0 ∷ 0 ∷ []) (0x80000000 ∷ 0x7FC00000 ∷ []) (done-with 33)
+    -- three vectors: 8 + 3 x 4 + 3 x 9
+    ∷ measures binary32 3 (1 ∷ 0 ∷ 0 ∷ 0 ∷ 10 ∷ 10 ∷ []) (replicate 20 0x40E00000) (done-with 47)
+    -- 64-bit, the first and the last vector all exceptions: 8 + 3 x 4 + 3 x 13 + 16 x 10
+    ∷ measures binary64 3 (18 ∷ 0 ∷ 0 ∷ 0 ∷ 18 ∷ 18 ∷ []) (replicate 24 0x401C000000000000) (done-with 219)
     ∷ []
 
 -- ---- one vector by its number

@@ -1,6 +1,6 @@
 -- Calls with what each must give, as lines of a table; and document 01's starred recordings, R1 to R11, as one table with one statement:
 -- the written rules give what the document says. Assumes nothing.
-use Prim.Native.Nat.{ℕ, zero, suc, _/_, _%_, _^_}
+use Prim.Native.Nat.{ℕ, zero, suc, _-_, _/_, _%_, _^_}
 use mathlib.Core.Path.{_≡_, refl}
 use mathlib.Core.Bool.{Bool, true, false, _&&_}
 use mathlib.Core.List.{List, [], _∷_, _++_}
@@ -12,11 +12,11 @@ use Rattle.rules.specs.Kind.{maxValues}
 use Rattle.rules.specs.Decimal.{allDecimal}
 use Rattle.rules.specs.Vector.{allVector}
 use Rattle.rules.specs.Page.{allPage}
-use Rattle.rules.specs.Verdict.{Point, in-vector, Result, done, refused, done-with}
+use Rattle.rules.specs.Verdict.{Point, the-page, in-vector, Result, done, refused, done-with}
 use Rattle.rules.specs.Read.{readOf, allRead}
 use Rattle.rules.specs.ReadVector.{readVectorOf, allReadVector}
 use Rattle.rules.specs.Examine.{examineOf, allExamine}
-use Rattle.rules.specs.Write.{bound, writeOf, allWrite}
+use Rattle.rules.specs.Write.{writeOf, allWrite}
 use Rattle.rules.specs.Calls.{measureOf}
 use Rattle.rules.specs.declared.Answer.{Answer}
 
@@ -36,8 +36,8 @@ pub data Line : Type 0 where
   reads : Format → List ℕ → ℕ → Result → Line
   reads-vector : Format → List ℕ → ℕ → ℕ → Result → Line
   examines : Format → List ℕ → Result → Line
-  -- kind, s, pairs, values, page: measuring gives the bound; the writer, lent just that, gives the page; the reader, lent just the count,
-  -- the values; and the examiner is done with them
+  -- kind, s, pairs, values, page: measuring gives the page's length; the writer, lent just that, gives the page, and lent a byte less it
+  -- refuses by 15; the reader, lent just the count, gives the values; and the examiner is done with them
   written : Format → ℕ → List ℕ → List ℕ → List ℕ → Line
   -- kind, page, values, row, point: the reader gives the values, and the examiner refuses the page
   flawed : Format → List ℕ → List ℕ → ℕ → Point → Line
@@ -68,8 +68,9 @@ holds (reads fmt page room r) = gives (readOf fmt room page) r
 holds (reads-vector fmt page v room r) = gives (readVectorOf fmt v room page) r
 holds (examines fmt page r) = gives (examineOf fmt page) r
 holds (written fmt s pairs vs page) =
-    answers (measureOf fmt s pairs vs) (done-with (bound fmt s (length vs)))
-    && gives (writeOf fmt s pairs vs (bound fmt s (length vs))) (done page)
+    answers (measureOf fmt s pairs vs) (done-with (length page))
+    && gives (writeOf fmt s pairs vs (length page)) (done page)
+    && gives (writeOf fmt s pairs vs (length page - 1)) (refused 15 the-page)
     && gives (readOf fmt (length vs) page) (done vs)
     && gives (examineOf fmt page) (done vs)
 holds (flawed fmt page vs a p) = gives (readOf fmt (length vs) page) (done vs) && gives (examineOf fmt page) (refused a p)

@@ -1,7 +1,8 @@
--- The writer: its checks in order, the room that it asks for, and the page that it gives. Pairs are lent as bytes. Assumes nothing.
-use Prim.Native.Nat.{ℕ, zero, suc, _+_, _*_, _≤_}
+-- The writer: its checks in order, the size of the page that it gives, and an upper limit of that. Pairs are lent as bytes. Assumes
+-- nothing.
+use Prim.Native.Nat.{ℕ, suc, _+_, _*_, _≤_}
 use mathlib.Core.Path.{_≡_}
-use mathlib.Core.Bool.{Bool, _||_}
+use mathlib.Core.Bool.{_||_}
 use mathlib.Core.List.{List, [], _∷_}
 use lib.ListN.{length}
 use lib.Ieee.{Format}
@@ -60,7 +61,13 @@ settingsRows fmt s pairs vs =
     then row 16 the-page (length pairs isnt 2 * vectors s (length vs))
     then pairsRows fmt 0 (pairsOf pairs)
 
--- the room that the writer asks for n values (004, section 9.3)
+-- ---- how long a page is
+
+-- the bytes of the page of these values with these settings: what measuring gives, and what the writer asks for
+abbrev pub pageSize : Format → ℕ → List ℕ → List ℕ → ℕ
+pageSize fmt s pairs vs = length (pageOf fmt s (pairsOf pairs) vs)
+
+-- document 01's bound: no page of n values is longer, whatever they are (004, section 9.3)
 unfoldable pub bound : Format → ℕ → ℕ → ℕ
 bound fmt s n = 8 + vectors s n * (4 + metaBytes fmt) + n * (2 * wordBytes fmt + 2)
 
@@ -68,7 +75,7 @@ bound fmt s n = 8 + vectors s n * (4 + metaBytes fmt) + n * (2 * wordBytes fmt +
 
 -- 5, 6, 16, 9 and 10, then 15
 unfoldable pub writeRows : Format → ℕ → List ℕ → List ℕ → ℕ → Rows
-writeRows fmt s pairs vs room = settingsRows fmt s pairs vs then row 15 the-page (room below bound fmt s (length vs))
+writeRows fmt s pairs vs room = settingsRows fmt s pairs vs then row 15 the-page (room below pageSize fmt s pairs vs)
 
 unfoldable pub writeOf : Format → ℕ → List ℕ → List ℕ → ℕ → Result
 writeOf fmt s pairs vs room = call (writeRows fmt s pairs vs room) (pageOf fmt s (pairsOf pairs) vs)

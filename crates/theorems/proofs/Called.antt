@@ -13,12 +13,12 @@ use Rattle.digits.proofs.Lists.{length-over}
 use Rattle.rules.specs.Verdict.{Point, Rows, Verdict, ordered, Passes, FirstTrue, fine, refuse, verdict, Result, done, refused, settle, call, answer, done-with, refusal}
 use lib.Ieee.{Format}
 use mathlib.Core.Logic.{_⊎_, inl, inr}
-use Rattle.rules.specs.Write.{settingsRows, bound}
+use Rattle.rules.specs.Write.{settingsRows, pageSize}
 use Rattle.rules.specs.Calls.{among, measured, measureOf, given-by-measuring}
 use Rattle.rules.specs.Demands.{Answers, Leaves}
 use Rattle.theorems.proofs.Ordered.{fine-passes, passes-fine, refuse-first, first-refuses, Numbered, number-given}
 
-settle-refused : (v : Verdict) (xs : List ℕ) (a : ℕ) (p : Point) → settle v xs ≡ refused a p → v ≡ refuse a p
+pub settle-refused : (v : Verdict) (xs : List ℕ) (a : ℕ) (p : Point) → settle v xs ≡ refused a p → v ≡ refuse a p
 settle-refused fine xs a p e = let o : _≡_ {A = ℕ} 0 1 = cc in absurd (omega arith)
 settle-refused (refuse b q) xs a p e = cc
 
@@ -66,13 +66,13 @@ place-when-done r numbers never table a is zero count =
 
 pub measuring-gives : (fmt : Format) (s : ℕ) (pairs vs : List ℕ) → Numbered given-by-measuring (settingsRows fmt s pairs vs)
     → ((a : ℕ) × (p : Point) × FirstTrue (ordered (settingsRows fmt s pairs vs)) a p × T (among a given-by-measuring) × (measureOf fmt s pairs vs ≡ refusal a p))
-    ⊎ (Each Passes (ordered (settingsRows fmt s pairs vs)) × (measureOf fmt s pairs vs ≡ done-with (bound fmt s (length vs))))
+    ⊎ (Each Passes (ordered (settingsRows fmt s pairs vs)) × (measureOf fmt s pairs vs ≡ done-with (pageSize fmt s pairs vs)))
 unfolding measureOf
 measuring-gives fmt s pairs vs n = go (verdict (settingsRows fmt s pairs vs)) refl
   where
     go : (v : Verdict) → verdict (settingsRows fmt s pairs vs) ≡ v
-        → ((a : ℕ) × (p : Point) × FirstTrue (ordered (settingsRows fmt s pairs vs)) a p × T (among a given-by-measuring) × (measured (verdict (settingsRows fmt s pairs vs)) (bound fmt s (length vs)) ≡ refusal a p))
-        ⊎ (Each Passes (ordered (settingsRows fmt s pairs vs)) × (measured (verdict (settingsRows fmt s pairs vs)) (bound fmt s (length vs)) ≡ done-with (bound fmt s (length vs))))
-    go fine e = inr (fine-passes (settingsRows fmt s pairs vs) e, ap (λ (v : Verdict). measured v (bound fmt s (length vs))) e)
+        → ((a : ℕ) × (p : Point) × FirstTrue (ordered (settingsRows fmt s pairs vs)) a p × T (among a given-by-measuring) × (measured (verdict (settingsRows fmt s pairs vs)) (pageSize fmt s pairs vs) ≡ refusal a p))
+        ⊎ (Each Passes (ordered (settingsRows fmt s pairs vs)) × (measured (verdict (settingsRows fmt s pairs vs)) (pageSize fmt s pairs vs) ≡ done-with (pageSize fmt s pairs vs)))
+    go fine e = inr (fine-passes (settingsRows fmt s pairs vs) e, ap (λ (v : Verdict). measured v (pageSize fmt s pairs vs)) e)
     go (refuse a p) e =
-        inl (a, p, refuse-first (settingsRows fmt s pairs vs) a p e, number-given given-by-measuring (settingsRows fmt s pairs vs) a p n e, ap (λ (v : Verdict). measured v (bound fmt s (length vs))) e)
+        inl (a, p, refuse-first (settingsRows fmt s pairs vs) a p e, number-given given-by-measuring (settingsRows fmt s pairs vs) a p n e, ap (λ (v : Verdict). measured v (pageSize fmt s pairs vs)) e)

@@ -21,11 +21,11 @@ use Rattle.rules.specs.Decimal.{Pair, power, negPower, scaled, signed, whole, b
 use Rattle.rules.specs.Floats.{NearestEven, RoundedOnce, NearestToInverse, AsNear, broughtBack}
 use Rattle.rules.specs.Vector.{Raw, tries, filled, fieldsOf, widthOf, encoded, fields, stored}
 use Rattle.rules.specs.Page.{vectors, pageOf, sOf, countOf, vectorsOf, bodyOf, metaAt}
-use Rattle.rules.specs.Verdict.{Point, fine, verdict, ordered, Passes, FirstTrue, done, done-with, refusal, Result, answer, after}
+use Rattle.rules.specs.Verdict.{Point, the-page, fine, verdict, ordered, Passes, FirstTrue, done, refused, done-with, refusal, Result, answer, after}
 use Rattle.rules.specs.Read.{readRows, valuesOf, readOf}
 use Rattle.rules.specs.ReadVector.{valuesIn, readVectorRows, vectorValues, readVectorOf}
 use Rattle.rules.specs.Examine.{unusedSet, examineRows, examineOf}
-use Rattle.rules.specs.Write.{pairsOf, Allowed, Inside, settingsRows, bound, writeRows, writeOf}
+use Rattle.rules.specs.Write.{pairsOf, Allowed, Inside, settingsRows, pageSize, bound, writeRows, writeOf}
 use Rattle.rules.specs.Calls.{measureOf, Measured, Written, Read, ReadVector, Examined, among, given-by-measuring, given-by-writer, given-by-reader, given-by-vector-reader, given-by-examiner}
 use Rattle.rules.specs.Demands.{Answers, Leaves, Examines, Alike}
 use Rattle.rules.specs.declared.Answer.{Answer}
@@ -34,10 +34,10 @@ use Rattle.rules.proofs.Settings.{settings-pass, settings-fine}
 use Rattle.rules.proofs.Powers as Powers
 use native.Mathlib.Omega.{arith}
 use Rattle.theorems.proofs.Called.{answers, leaves, measuring-gives, place-when-done}
-use Rattle.theorems.proofs.Examples.{nothing, nothing-written, nothing-read, nothing-accepted, no-bytes-refused, zeroPage, roomy, zero-written, zero-read, zero-vector-read, zero-lists-none}
+use Rattle.theorems.proofs.Examples.{nothing, nothing-written, nothing-read, nothing-accepted, no-bytes-refused, zeroPage, roomy, roomy-below, zero-written, zero-read, zero-vector-read, zero-lists-none}
 use Rattle.theorems.proofs.GivenBy.{measuring-numbered, writer-numbered, reader-numbered, vector-reader-numbered, examiner-numbered}
 use Rattle.theorems.proofs.RoundTrip.{written-length, round-trip}
-use Rattle.theorems.proofs.Done.{examined-count, writer-done, page-when-done, writer-room, reader-room, read-done, read-values-done, vector-done, vector-values-done, vector-reader-room, examined-reads}
+use Rattle.theorems.proofs.Done.{examined-count, writer-done, writer-too-short, page-when-done, writer-room, reader-room, read-done, read-values-done, vector-done, vector-values-done, vector-reader-room, examined-reads}
 use Rattle.theorems.proofs.Stretch.{vector-is-stretch}
 use Rattle.theorems.proofs.Elsewhere.{elsewhere-does-not-matter}
 use Rattle.theorems.proofs.Listing.{listed-exactly}
@@ -65,15 +65,15 @@ pub examiner-answers : (fmt : Format) (bs : List ℕ) → Answers (examineOf fmt
 unfolding examineOf
 examiner-answers fmt bs = answers (examineRows fmt bs) given-by-examiner (valuesOf fmt bs) (examiner-numbered fmt bs)
 
--- measuring lends nothing to write to: the first of its rows that says so, or the room that the writer asks for
+-- measuring lends nothing to write to: the first of its rows that says so, or the page's size
 pub measuring-answers : (fmt : Format) (s : ℕ) (pairs vs : List ℕ)
     → ((a : ℕ) × (p : Point) × FirstTrue (ordered (settingsRows fmt s pairs vs)) a p × T (among a given-by-measuring) × (measureOf fmt s pairs vs ≡ refusal a p))
-    ⊎ (Each Passes (ordered (settingsRows fmt s pairs vs)) × (measureOf fmt s pairs vs ≡ done-with (bound fmt s (length vs))))
+    ⊎ (Each Passes (ordered (settingsRows fmt s pairs vs)) × (measureOf fmt s pairs vs ≡ done-with (pageSize fmt s pairs vs)))
 measuring-answers fmt s pairs vs = measuring-gives fmt s pairs vs (measuring-numbered fmt s pairs vs)
 
 -- what writer and readers leave of the lent output
-pub writer-leaves : (fmt : Format) (s : ℕ) (pairs vs out : List ℕ) → Values fmt vs → Leaves (writeOf fmt s pairs vs (length out)) out
-writer-leaves fmt s pairs vs out ok = leaves (writeOf fmt s pairs vs (length out)) out (writer-room fmt s pairs vs ok (length out))
+pub writer-leaves : (fmt : Format) (s : ℕ) (pairs vs out : List ℕ) → Leaves (writeOf fmt s pairs vs (length out)) out
+writer-leaves fmt s pairs vs out = leaves (writeOf fmt s pairs vs (length out)) out (writer-room fmt s pairs vs (length out))
 
 pub reader-leaves : (fmt : Format) (bs out : List ℕ) → Leaves (readOf fmt (length out) bs) out
 reader-leaves fmt bs out = leaves (readOf fmt (length out) bs) out (reader-room fmt bs (length out))
@@ -81,15 +81,28 @@ reader-leaves fmt bs out = leaves (readOf fmt (length out) bs) out (reader-room 
 pub vector-reader-leaves : (fmt : Format) (v : ℕ) (bs out : List ℕ) → Leaves (readVectorOf fmt v (length out) bs) out
 vector-reader-leaves fmt v bs out = leaves (readVectorOf fmt v (length out) bs) out (vector-reader-room fmt v bs (length out))
 
--- ==== The writer is done exactly where the settings are inside the limits and there is the room; then it gives the page
+-- ==== The writer is done exactly where the settings are inside the limits and the output is no shorter than the page; then it gives the page
 
 pub writer-is-done : (fmt : Format) (s : ℕ) (pairs vs : List ℕ) (room : ℕ)
     → (writeOf fmt s pairs vs room ≡ done (pageOf fmt s (pairsOf pairs) vs))
-    ↔ ((length pairs ≡ 2 * vectors s (length vs)) × Inside fmt s (pairsOf pairs) (length vs) × (bound fmt s (length vs) ≤ room))
+    ↔ ((length pairs ≡ 2 * vectors s (length vs)) × Inside fmt s (pairsOf pairs) (length vs) × (pageSize fmt s pairs vs ≤ room))
 writer-is-done fmt s pairs vs room = writer-done fmt s pairs vs room
 
+-- row 15: exactly where no other row refuses and the output is shorter than the page
+pub writer-asks-for-the-page : (fmt : Format) (s : ℕ) (pairs vs : List ℕ) (room : ℕ)
+    → (writeOf fmt s pairs vs room ≡ refused 15 the-page) ↔ ((verdict (settingsRows fmt s pairs vs) ≡ fine) × (room < pageSize fmt s pairs vs))
+writer-asks-for-the-page = writer-too-short
+
+-- document 01's bound is an upper limit of the page's size
 pub the-page-fits : (fmt : Format) (s : ℕ) (ps : List Pair) (vs : List ℕ) → Inside fmt s ps (length vs) → Values fmt vs → length (pageOf fmt s ps vs) ≤ bound fmt s (length vs)
 the-page-fits = written-length
+
+-- so an output of that length is never too short
+pub the-bound-is-enough : (fmt : Format) (s : ℕ) (pairs vs : List ℕ) (room : ℕ) → Values fmt vs → bound fmt s (length vs) ≤ room → writeOf fmt s pairs vs room ≡ refused 15 the-page → ⊥
+the-bound-is-enough fmt s pairs vs room ok h e =
+    let short = writer-too-short fmt s pairs vs room .0 e in
+    let fits = written-length fmt s (pairsOf pairs) vs (settings-fine fmt s pairs vs (short .0) .1) ok in
+    omega (arith, short .1, fits, h)
 
 -- rows 5, 6, 16, 9 and 10 mean exactly: not two bytes for each vector, or settings outside the limits
 pub settings-rows-mean : (fmt : Format) (s : ℕ) (pairs vs : List ℕ)
@@ -260,6 +273,12 @@ module _ (fmt : Format) where
   pub not-a-vector-reader-that-refuses-everything : (R : VectorReader) → GoodVectorReader R → ((page : List ℕ) (v : ℕ) (out : List ℕ) → R page v out .0 .number ≡ 0 → ⊥) → ⊥
   not-a-vector-reader-that-refuses-everything R good bad =
       bad (zeroPage fmt) 0 (1 ∷ []) (ap (λ (r : Answer). r .number) (good (zeroPage fmt) 0 (1 ∷ []) .answer-is ∙ ap answer (zero-vector-read fmt)))
+
+  -- a writer that asks for the bound, though the page would fit
+  pub not-a-writer-that-asks-for-the-bound : (W : Writer) → GoodWriter W → ((values : List ℕ) (s : ℕ) (pairs out : List ℕ) → length out < bound fmt s (length values) → W values s pairs out .0 .number ≡ 15) → ⊥
+  not-a-writer-that-asks-for-the-bound W good bad =
+      let e : _≡_ {A = ℕ} 0 15 = sym (ap (λ (r : Answer). r .number) (good (0 ∷ []) 3 (0 ∷ 0 ∷ []) roomy .answer-is ∙ ap answer (zero-written fmt))) ∙ bad (0 ∷ []) 3 (0 ∷ 0 ∷ []) roomy (roomy-below fmt) in
+      omega arith
 
   -- an examiner that accepts everything, or nothing
   pub not-an-examiner-that-accepts-everything : (X : Examiner) → GoodExaminer X → ((page : List ℕ) → X page .number ≡ 0) → ⊥

@@ -1,8 +1,9 @@
 -- Two small pages, computed: the page of no values, and the page of the one value zero. Assumes nothing.
 use mathlib.Core.Path.{_≡_, refl}
-use Prim.Native.Nat.{ℕ}
+use Prim.Native.Nat.{ℕ, _<_}
 use mathlib.Core.List.{List, [], _∷_, _++_}
 use lib.ListN.{replicate}
+use lib.Dec.{lit<}
 use lib.Ieee.{Format, binary32, binary64}
 use Rattle.digits.specs.Digits.{allDigits}
 use Rattle.rules.specs.Kind.{wordBytes}
@@ -13,7 +14,7 @@ use Rattle.rules.specs.Verdict.{the-page, done, refused, after}
 use Rattle.rules.specs.Read.{readOf, allRead}
 use Rattle.rules.specs.ReadVector.{readVectorOf, allReadVector}
 use Rattle.rules.specs.Examine.{examineOf, allExamine}
-use Rattle.rules.specs.Write.{writeOf, allWrite}
+use Rattle.rules.specs.Write.{bound, writeOf, allWrite}
 
 -- R3: the header alone
 abbrev pub nothing : List ℕ
@@ -44,11 +45,16 @@ no-bytes-refused binary64 = refl
 abbrev pub zeroPage : Format → List ℕ
 zeroPage fmt = 1 ∷ 0 ∷ 0 ∷ 3 ∷ 1 ∷ 0 ∷ 0 ∷ 0 ∷ 4 ∷ 0 ∷ 0 ∷ 0 ∷ replicate 5 0 ++ replicate (wordBytes fmt) 0
 
--- the output that it is lent: more than the bound
+-- the output that it is lent: longer than the page, and shorter than the bound
 abbrev pub roomy : List ℕ
-roomy = replicate 64 0
+roomy = replicate 30 0
 
-pub zero-written : (fmt : Format) → writeOf fmt 3 (0 ∷ 0 ∷ []) (0 ∷ []) 64 ≡ done (zeroPage fmt)
+pub roomy-below : (fmt : Format) → 30 < bound fmt 3 1
+unfolding bound
+roomy-below binary32 = lit< tt
+roomy-below binary64 = lit< tt
+
+pub zero-written : (fmt : Format) → writeOf fmt 3 (0 ∷ 0 ∷ []) (0 ∷ []) 30 ≡ done (zeroPage fmt)
 unfolding allDigits allDecimal allVector allPage allWrite
 zero-written binary32 = refl
 zero-written binary64 = refl

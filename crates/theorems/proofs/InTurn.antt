@@ -1,28 +1,32 @@
--- The calls themselves, one after the other: what is written is accepted, what is accepted is read, what was read is written again to the
--- same bytes, and each vector of what was read is read alone. Each call is known by its record alone, lent its buffers as the last one left
--- them. Assumes nothing.
+-- The calls themselves, one after the other: what is measured is just what writing takes, what is written is accepted, what is accepted is
+-- read, what was read is written again to the same bytes, and each vector of what was read is read alone. Each call is known by its record
+-- alone, lent its buffers as the last one left them. Assumes nothing.
 use mathlib.Core.Path.{_≡_, sym, ap, ap₂, _∙_, subst}
-use mathlib.Core.List.{List}
+use mathlib.Core.List.{List, _++_, append-nil}
+use mathlib.Core.Logic.{inl, inr}
 use Prim.Native.Nat.{ℕ, _*_, _^_, _<_, _≤_}
-use lib.ListN.{length, take, drop}
+use lib.ListN.{length, take, drop, drop-of-length-le}
+use lib.Dec.{T}
+use native.Mathlib.Nat.{le-of-eq}
 use lib.Seq.{take-append-seam}
 use lib.Ieee.{Format}
 use Rattle.digits.specs.Lists.{over}
 use Rattle.rules.specs.Kind.{Bytes, Values}
 use Rattle.rules.specs.Decimal.{Pair}
 use Rattle.rules.specs.Page.{pageOf, sOf, vectorsOf}
-use Rattle.rules.specs.Verdict.{Result, done, answer, after, done-with}
+use Rattle.rules.specs.Verdict.{fine, verdict, the-page, Result, done, answer, after, done-with, refusal}
 use Rattle.rules.specs.Read.{readOf}
 use Rattle.rules.specs.ReadVector.{valuesIn, readVectorOf}
 use Rattle.rules.specs.Examine.{examineOf}
-use Rattle.rules.specs.Write.{pairsOf, pairBytes, Inside, PageOf, bound, writeOf}
-use Rattle.rules.specs.Calls.{Written, Read, ReadVector, Examined, given-by-writer, given-by-reader, given-by-examiner}
+use Rattle.rules.specs.Write.{pairsOf, pairBytes, Inside, PageOf, settingsRows, pageSize, writeOf}
+use Rattle.rules.specs.Calls.{Measured, Written, Read, ReadVector, Examined, among, given-by-measuring, given-by-writer, given-by-reader, given-by-examiner}
 use Rattle.rules.specs.declared.Answer.{Answer}
-use Rattle.rules.proofs.Settings.{pairs-back, length-pairBytes}
+use Rattle.rules.proofs.Settings.{pairs-back, length-pairBytes, settings-fine}
+use Rattle.theorems.proofs.Ordered.{passes-fine}
 use Rattle.theorems.proofs.Called.{done-when-zero}
 use Rattle.theorems.proofs.Done.{writer-done, page-when-done}
 use Rattle.theorems.proofs.OnePage.{page-is-accepted}
-use Rattle.theorems.proofs.Demands.{writer-answers, reader-answers, examiner-answers, demand-3, one-vector-is-its-stretch}
+use Rattle.theorems.proofs.Demands.{measuring-answers, writer-asks-for-the-page, writer-answers, reader-answers, examiner-answers, demand-3, one-vector-is-its-stretch}
 
 -- a call that is done has its output in front
 module _ (r : Result) (xs out : List ℕ) (e : r ≡ done xs) (a : Answer) (is : a ≡ answer r) (end : List ℕ) (left : end ≡ after r out) where
@@ -36,6 +40,35 @@ module _ (r : Result) (xs out : List ℕ) (e : r ≡ done xs) (a : Answer) (is :
   front-is = ap₂ (λ (n : ℕ) (l : List ℕ). take n l) (ap (λ (x : Answer). x .place) answer-is-done) end-is ∙ take-append-seam xs (drop (length xs) out)
 
 module _ (fmt : Format) where
+  -- measure, then write
+  module _ (values : List ℕ) (s : ℕ) (pairs : List ℕ) (m : Answer) (measured : Measured fmt values s pairs m) (zero : m .number ≡ 0) where
+    -- the settings were inside the limits, and the place is the page's size
+    measured-size : (verdict (settingsRows fmt s pairs values) ≡ fine) × (m ≡ done-with (pageSize fmt s pairs values))
+    measured-size = elim (measuring-answers fmt s pairs values) [
+      | inl q ↦ (let none : q .0 ≡ 0 = sym (ap (λ (x : Answer). x .number) (measured .answer-is ∙ q .4)) ∙ zero in absurd (subst (λ (a : ℕ). T (among a given-by-measuring)) none (q .3)))
+      | inr q ↦ (passes-fine (settingsRows fmt s pairs values) (q .0), measured .answer-is ∙ q .1)
+    ]
+
+    module _ (out : List ℕ) (w : Answer) (end : List ℕ) (written : Written fmt values s pairs out w end) where
+      abbrev page : List ℕ
+      page = pageOf fmt s (pairsOf pairs) values
+
+      -- into just as many bytes: the same answer, and the page is all that the output holds
+      pub measure-then-write : length out ≡ m .place → (w ≡ m) × (end ≡ page)
+      measure-then-write fills =
+          let long : length out ≡ length page = fills ∙ ap (λ (x : Answer). x .place) (measured-size .1) in
+          let given = writer-done fmt s pairs values (length out) .1 (settings-fine fmt s pairs values (measured-size .0) .0, settings-fine fmt s pairs values (measured-size .0) .1, le-of-eq (sym long)) in (
+            answer-is-done _ page out given w (written .answer-is) end (written .output-is) ∙ sym (measured-size .1),
+            end-is _ page out given w (written .answer-is) end (written .output-is) ∙ ap (λ (l : List ℕ). page ++ l) (drop-of-length-le out {i = length page} (le-of-eq long)) ∙ append-nil page,
+          )
+
+      -- into fewer: 15, and the output as it came
+      pub measure-then-refuse : length out < m .place → (w ≡ refusal 15 the-page) × (end ≡ out)
+      measure-then-refuse short =
+          let less = subst (λ (n : ℕ). length out < n) (ap (λ (x : Answer). x .place) (measured-size .1)) short in
+          let given = writer-asks-for-the-page fmt s pairs values (length out) .1 (measured-size .0, less) in
+          (written .answer-is ∙ ap answer given, written .output-is ∙ ap (λ (r : Result). after r out) given)
+
   -- write, then examine the bytes written: done, with the count of the values
   pub write-then-examine : (values : List ℕ) (s : ℕ) (pairs out : List ℕ) (w : Answer) (end : List ℕ) (x : Answer) → Values fmt values
       → Written fmt values s pairs out w end → w .number ≡ 0 → Examined fmt (take (w .place) end) x → x ≡ done-with (length values)
@@ -58,15 +91,15 @@ module _ (fmt : Format) where
         let given : readOf fmt (length out) page ≡ done vs = demand-3 fmt page bytes .reads vs (length out) (d .1) fits in
         (vs, holds .0, holds .1, holds .2, answer-is-done (readOf fmt (length out) page) vs out given r (read .answer-is) end (read .output-is), end-is (readOf fmt (length out) page) vs out given r (read .answer-is) end (read .output-is))
 
-    -- with the page's own s and pairs, what was read is written again to the same bytes
-    pub read-then-write : (s : ℕ) × (pairs : List ℕ) × ((free : List ℕ) (w : Answer) (left : List ℕ) → bound fmt s (r .place) ≤ length free
+    -- with the page's own s and pairs, what was read is written again to the same bytes, into as many bytes or more
+    pub read-then-write : (s : ℕ) × (pairs : List ℕ) × ((free : List ℕ) (w : Answer) (left : List ℕ) → length page ≤ length free
         → Written fmt (take (r .place) end) s pairs free w left → (w ≡ done-with (length page)) × (take (w .place) left ≡ page))
     read-then-write =
         let t = examine-then-read in
         again (t .0) (t .1) (t .2) (t .3) (t .4) (t .5)
       where
         again : (vs : List ℕ) (s : ℕ) (ps : List Pair) → PageOf fmt page s ps vs → r ≡ done-with (length vs) → end ≡ over vs out
-            → (s : ℕ) × (pairs : List ℕ) × ((free : List ℕ) (w : Answer) (left : List ℕ) → bound fmt s (r .place) ≤ length free
+            → (s : ℕ) × (pairs : List ℕ) × ((free : List ℕ) (w : Answer) (left : List ℕ) → length page ≤ length free
             → Written fmt (take (r .place) end) s pairs free w left → (w ≡ done-with (length page)) × (take (w .place) left ≡ page))
         again vs s ps holds er ee = (
           s,
@@ -77,7 +110,7 @@ module _ (fmt : Format) where
               let same : Written fmt vs s (pairBytes ps) free w left = subst (λ (l : List ℕ). Written fmt l s (pairBytes ps) free w left) values written in
               let pairs = pairs-back ps in
               let long : length (pairBytes ps) ≡ 2 * length ps = length-pairBytes ps in
-              let given = writer-done fmt s (pairBytes ps) vs (length free) .1 (long ∙ ap (λ (n : ℕ). 2 * n) (holds .inside .one-each), subst (λ (l : List Pair). Inside fmt s l (length vs)) (sym pairs) (holds .inside), subst (λ (n : ℕ). bound fmt s n ≤ length free) place fits) in
+              let given = writer-done fmt s (pairBytes ps) vs (length free) .1 (long ∙ ap (λ (n : ℕ). 2 * n) (holds .inside .one-each), subst (λ (l : List Pair). Inside fmt s l (length vs)) (sym pairs) (holds .inside), subst (λ (n : ℕ). n ≤ length free) (ap length (holds .page-is ∙ ap (λ (l : List Pair). pageOf fmt s l vs) (sym pairs))) fits) in
               let given-page : writeOf fmt s (pairBytes ps) vs (length free) ≡ done page = given ∙ ap (λ (l : List Pair). done (pageOf fmt s l vs)) pairs ∙ ap done (sym (holds .page-is)) in
               let result = writeOf fmt s (pairBytes ps) vs (length free) in
               (answer-is-done result page free given-page w (same .answer-is) left (same .output-is), front-is result page free given-page w (same .answer-is) left (same .output-is)),

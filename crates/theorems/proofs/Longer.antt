@@ -14,17 +14,19 @@ use lib.Pow.{pow-pos, pow-mono}
 use borrow.Author.Tests.{ltb-false, lt-ltb, le-ltb}
 use Rattle.digits.specs.Digits.{number, numbers, packedSize}
 use Rattle.digits.proofs.Rows.{length-numbers}
-use Rattle.rules.specs.Kind.{minS, maxValues, maxExponent, wordBits, wordBytes, metaBytes}
+use Rattle.rules.specs.Kind.{minS, maxValues, maxExponent, wordBits, wordBytes, metaBytes, Values}
+use Rattle.rules.specs.Decimal.{Pair}
 use Rattle.rules.specs.Vector.{Raw}
-use Rattle.rules.specs.Page.{Meta, vectors, vectorSize, sOf, countOf, vectorsOf, offsetsOf, bodyOf, metaAt, rawFrom, rawsOf}
+use Rattle.rules.specs.Page.{Meta, vectors, vectorSize, pageOf, sOf, countOf, vectorsOf, offsetsOf, bodyOf, metaAt, rawFrom, rawsOf}
 use Rattle.rules.specs.Verdict.{Verdict, fine, refuse, first, verdict, row, the-page, in-vector, _below_, _above_, _isnt_, settle, answer, after}
 use Rattle.rules.specs.Read.{headRows, offsetsRow, metaRows, positionsRows, listRows, Cursor, here, next, start, vectorRows, vectorsRows, pageRows, valuesOf, readOf, readRows}
 use Rattle.rules.specs.Examine.{allRulesRows, examineRows, examineOf}
-use Rattle.rules.specs.Write.{bound}
+use Rattle.rules.specs.Write.{Inside, bound}
 use Rattle.rules.proofs.Rows.{row-fine, first-fine, first-as}
+use Rattle.rules.proofs.Encoded.{page-fits}
 use Rattle.rules.proofs.Reading.{meta-fine, Passed, vector-fine, Header, header-fine, page-fine}
 
--- ---- the longest page: the room that the writer asks for the most values in the shortest vectors
+-- ---- no page is longer: the bound of the most values in the shortest vectors
 
 unfoldable pub longest : Format → ℕ
 longest fmt = bound fmt minS maxValues
@@ -48,6 +50,10 @@ bound-most : (fmt : Format) (s n : ℕ) → minS ≤ s → n ≤ maxValues → b
 unfolding longest bound
 bound-most binary32 s n l h = let v = few s n l h in omega arith
 bound-most binary64 s n l h = let v = few s n l h in omega arith
+
+-- so the file tool's room takes whatever measuring answers
+pub no-page-is-longer : (fmt : Format) (s : ℕ) (ps : List Pair) (vs : List ℕ) → Inside fmt s ps (length vs) → Values fmt vs → length (pageOf fmt s ps vs) ≤ longest fmt
+no-page-is-longer fmt s ps vs i ok = le-trans (page-fits fmt s ps vs i ok) (bound-most fmt s (length vs) (i .low) (i .many))
 
 -- ---- numbers at the front of a list are those of any list that begins with it
 

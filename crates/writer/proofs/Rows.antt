@@ -1,34 +1,33 @@
 -- The writer's rows: which of them refuses first, what it shows that all pass, and what the writing and the measuring call then give.
 -- Assumes nothing.
-use mathlib.Core.Path.{_≡_, refl, sym, ap, ap₂, _∙_}
+use mathlib.Core.Path.{_≡_, refl, sym, ap, ap₂, _∙_, subst}
 use mathlib.Core.List.{List, _∷_}
 use Prim.Native.Nat.{ℕ, _+_, _-_, _*_, _/_, _^_, _≤_, _<_}
 use native.Mathlib.Nat.{le-trans}
 use native.Mathlib.Numerals.{add-one}
 use native.Mathlib.Omega.{arith}
-use lib.ListN.{length, getD, drop, replicate, length-replicate}
+use lib.ListN.{length, getD, drop}
 use lib.Dec.{lit≤}
 use lib.Pow.{pow-pos}
 use lib.Ieee.{Format, binary32, binary64}
 use borrow.Author.Tests.{lt-ltb, le-ltb, ltb-false, eq-eqb, ne-eqb}
 use Rattle.digits.specs.Lists.{over}
-use Rattle.rules.specs.Kind.{minS, maxS, maxValues, wordBytes, metaBytes, Values}
+use Rattle.rules.specs.Kind.{minS, maxS, maxValues, wordBytes, metaBytes}
 use Rattle.rules.specs.Decimal.{Pair}
 use Rattle.rules.specs.Page.{vectors, pageOf}
 use Rattle.rules.specs.Verdict.{Verdict, fine, refuse, first, verdict, row, the-page, done-with, _below_}
-use Rattle.rules.specs.Write.{pairsOf, pairsRows, settingsRows, bound, writeRows, writeOf}
+use Rattle.rules.specs.Write.{pairsOf, pairsRows, settingsRows, pageSize, bound, writeRows, writeOf}
 use Rattle.rules.specs.Calls.{measured, measureOf, Measured, Written}
 use Rattle.rules.specs.declared.Answer.{Answer}
 use Rattle.rules.specs.declared.Exponent.{Exponent}
 use Rattle.rules.specs.declared.Factor.{Factor}
-use Rattle.rules.proofs.Rows.{first-fine, row-fine}
-use Rattle.rules.proofs.Encoded.{page-fits}
+use Rattle.rules.proofs.Rows.{row-fine}
 use Rattle.rules.proofs.Settings.{pairs-next, pairs-none, settings-fine}
 use Rattle.checks.specs.Forms.{asVerdict, pairRows}
 use Rattle.checks.specs.declared.check.Check.the-variants.{No}
 use Rattle.checks.proofs.Bounds.{small, few-vectors}
 use Rattle.checks.proofs.Refusals.{pairs-turn, refused-answer, refused-after}
-use Rattle.writer.specs.Settled.{Settled}
+use Rattle.writer.specs.Settled.{Settled, Ready}
 
 -- ---- 9 and 10: the pair at byte j, of vector v, and those behind it
 
@@ -68,23 +67,7 @@ module _ (fmt : Format) (s : ℕ) (pairs vs : List ℕ) where
       unfolding settingsRows
       from9 h = rw (le-ltb s minS low, le-ltb maxS s high, le-ltb maxValues (length vs) many, eq-eqb (length pairs) (2 * vectors s (length vs)) h)
 
--- the code knows the count of values alone: any column of n values has these settings
-pub settings-inside : (fmt : Format) (s n : ℕ) (pairs : List ℕ) → ((vs : List ℕ) → length vs ≡ n → verdict (settingsRows fmt s pairs vs) ≡ fine) → (s ≤ maxS) × (n ≤ maxValues)
-settings-inside fmt s n pairs f =
-    let vs : List ℕ = replicate n 0 in
-    let e : length vs ≡ n = length-replicate n 0 in
-    let i = settings-fine fmt s pairs vs (f vs e) .1 in
-    (i .high, omega (arith, i .many, e))
-
--- ---- the room, worked out in machine numbers
-
-pub bound-is : (fmt : Format) (s n size count front word : ℕ) → size ≡ 2 ^ s → count ≡ (n + (size - 1)) / size → front ≡ metaBytes fmt → word ≡ wordBytes fmt
-    → 8 + count * (4 + front) + n * (2 * word + 2) ≡ bound fmt s n
-unfolding bound
-bound-is fmt s n size count front word es ec ef ew = rw (ec, es, ef, ew)
-
-pub room-small : (n count front word : ℕ) → n ≤ maxValues → count ≤ n → front ≤ 13 → word ≤ 8 → (count * (4 + front) ≤ maxValues * 17) × (n * (2 * word + 2) ≤ maxValues * 18)
-room-small n count front word hn hc hf hw = (small count (4 + front) {c = maxValues} {d = 17} (le-trans hc hn) (omega arith), small n (2 * word + 2) {c = maxValues} {d = 18} hn (omega arith))
+-- ---- a page's length is a machine number
 
 meta-small : (fmt : Format) → metaBytes fmt ≤ 13
 meta-small binary32 = lit≤ tt
@@ -97,52 +80,68 @@ word-small binary64 = lit≤ tt
 pub bound-small : (fmt : Format) (s n : ℕ) → n ≤ maxValues → bound fmt s n < 2 ^ 32
 unfolding bound
 bound-small fmt s n h =
-    let r = room-small n (vectors s n) (metaBytes fmt) (wordBytes fmt) h (few-vectors n (2 ^ s) (pow-pos s)) (meta-small fmt) (word-small fmt) in
-    omega (arith, r .0, r .1)
+    let few : vectors s n ≤ maxValues = le-trans (few-vectors n (2 ^ s) (pow-pos s)) h in
+    let fronts = small (vectors s n) (4 + metaBytes fmt) {c = maxValues} {d = 17} few (omega (arith, meta-small fmt)) in
+    let words = small n (2 * wordBytes fmt + 2) {c = maxValues} {d = 18} h (omega (arith, word-small fmt)) in
+    omega (arith, fronts, words)
 
--- ---- 15 behind them
+-- ---- 15, of a page of n bytes
 
-module _ (fmt : Format) (s : ℕ) (pairs vs : List ℕ) (room : ℕ) where
-  pub write-rows : verdict (writeRows fmt s pairs vs room) ≡ first (verdict (settingsRows fmt s pairs vs)) (verdict (row 15 the-page (room below bound fmt s (length vs))))
-  unfolding writeRows
-  write-rows = refl
+pub no15 : (room n : ℕ) → room < n → refuse 15 the-page ≡ verdict (row 15 the-page (room below n))
+no15 room n h = rw (lt-ltb room n h)
 
-  module _ (ok : verdict (settingsRows fmt s pairs vs) ≡ fine) where
-    pub no15 : room < bound fmt s (length vs) → refuse 15 the-page ≡ verdict (writeRows fmt s pairs vs room)
-    no15 h = rw (write-rows, ok, lt-ltb room (bound fmt s (length vs)) h)
-
-    pub write-passes : bound fmt s (length vs) ≤ room → fine ≡ verdict (writeRows fmt s pairs vs room)
-    write-passes h = rw (write-rows, ok, le-ltb room (bound fmt s (length vs)) h)
+pub room-passes : (room n : ℕ) → n ≤ room → fine ≡ verdict (row 15 the-page (room below n))
+room-passes room n h = rw (le-ltb room n h)
 
 -- ---- the calls
 
-module _ (fmt : Format) (s : ℕ) (pairs vs out : List ℕ) where
-  -- what is settled where no row refuses
-  pub settled : fine ≡ verdict (writeRows fmt s pairs vs (length out)) → Values fmt vs → Settled fmt s pairs vs out
-  settled ok values =
-      let a = first-fine (verdict (settingsRows fmt s pairs vs)) (verdict (row 15 the-page (length out below bound fmt s (length vs)))) (sym (ok ∙ write-rows fmt s pairs vs (length out))) in
-      let i = settings-fine fmt s pairs vs (a .0) in
-      let b : bound fmt s (length vs) ≤ length out = ltb-false (length out) (bound fmt s (length vs)) (row-fine 15 the-page (length out below bound fmt s (length vs)) (a .1)) in
-      record { two-each = i .0; inside = i .1; room = le-trans (page-fits fmt s (pairsOf pairs) vs (i .1) values) b }
+-- what is settled where none of those refuses
+pub settled : (fmt : Format) (s : ℕ) (pairs vs : List ℕ) → verdict (settingsRows fmt s pairs vs) ≡ fine → Settled fmt s pairs vs
+settled fmt s pairs vs ok = let i = settings-fine fmt s pairs vs ok in record { two-each = i .0; inside = i .1 }
 
-  pub written-refused : (a : Answer) → asVerdict (No a) ≡ verdict (writeRows fmt s pairs vs (length out)) → Written fmt vs s pairs out a out
+module _ (fmt : Format) (s : ℕ) (pairs vs out : List ℕ) where
+  abbrev page : List ℕ
+  page = pageOf fmt s (pairsOf pairs) vs
+
+  -- 15 behind them, of a page of n bytes
+  abbrev short : ℕ → Verdict
+  short n = verdict (row 15 the-page (length out below n))
+
+  write-rows : verdict (writeRows fmt s pairs vs (length out)) ≡ first (verdict (settingsRows fmt s pairs vs)) (short (length page))
+  unfolding writeRows
+  write-rows = refl
+
+  refused : (a : Answer) → asVerdict (No a) ≡ verdict (writeRows fmt s pairs vs (length out)) → Written fmt vs s pairs out a out
   unfolding writeOf
-  written-refused a e = record {
-    answer-is = refused-answer a (verdict (writeRows fmt s pairs vs (length out))) (pageOf fmt s (pairsOf pairs) vs) e;
-    output-is = refused-after a (verdict (writeRows fmt s pairs vs (length out))) (pageOf fmt s (pairsOf pairs) vs) e out;
+  refused a e = record {
+    answer-is = refused-answer a (verdict (writeRows fmt s pairs vs (length out))) page e;
+    output-is = refused-after a (verdict (writeRows fmt s pairs vs (length out))) page e out;
   }
 
-  pub written-done : (n : ℕ) (end : List ℕ) → fine ≡ verdict (writeRows fmt s pairs vs (length out)) → n ≡ length (pageOf fmt s (pairsOf pairs) vs)
-      → end ≡ over (pageOf fmt s (pairsOf pairs) vs) out → Written fmt vs s pairs out (done-with n) end
-  unfolding writeOf
-  written-done n end ok en ee = record { answer-is = rw (← ok) (ap done-with en); output-is = rw (← ok) ee }
+  pub refused-settings : (a : Answer) → asVerdict (No a) ≡ verdict (settingsRows fmt s pairs vs) → Written fmt vs s pairs out a out
+  refused-settings a e = refused a (ap (λ (v : Verdict). first v (short (length page))) e ∙ sym write-rows)
+
+  -- those pass, and n was measured
+  module _ (ok : verdict (settingsRows fmt s pairs vs) ≡ fine) (n : ℕ) (en : n ≡ pageSize fmt s pairs vs) where
+    behind : verdict (writeRows fmt s pairs vs (length out)) ≡ short n
+    behind = write-rows ∙ ap (λ (v : Verdict). first v (short (length page))) ok ∙ ap short (sym en)
+
+    pub refused-short : (a : Answer) → asVerdict (No a) ≡ short n → Written fmt vs s pairs out a out
+    refused-short a e = refused a (e ∙ sym behind)
+
+    pub ready : short n ≡ fine → Ready fmt s pairs vs out
+    ready e = record { settled = settled fmt s pairs vs ok; room = subst (λ (k : ℕ). k ≤ length out) en (ltb-false (length out) n (row-fine 15 the-page (length out below n) e)) }
+
+    pub written-done : short n ≡ fine → (m : ℕ) (end : List ℕ) → m ≡ length page → end ≡ over page out → Written fmt vs s pairs out (done-with m) end
+    unfolding writeOf
+    written-done e m end em ee = let passes : verdict (writeRows fmt s pairs vs (length out)) ≡ fine = behind ∙ e in record { answer-is = rw passes (ap done-with em); output-is = rw passes ee }
 
 module _ (fmt : Format) (s : ℕ) (pairs vs : List ℕ) where
   pub measured-refused : (a : Answer) → asVerdict (No a) ≡ verdict (settingsRows fmt s pairs vs) → Measured fmt vs s pairs a
   unfolding measureOf
-  measured-refused a e = record { answer-is = ap (λ (v : Verdict). measured v (bound fmt s (length vs))) e }
+  measured-refused a e = record { answer-is = ap (λ (v : Verdict). measured v (pageSize fmt s pairs vs)) e }
 
-  pub measured-done : (n : ℕ) → verdict (settingsRows fmt s pairs vs) ≡ fine → n ≡ bound fmt s (length vs) → Measured fmt vs s pairs (done-with n)
+  pub measured-done : (n : ℕ) → verdict (settingsRows fmt s pairs vs) ≡ fine → n ≡ pageSize fmt s pairs vs → Measured fmt vs s pairs (done-with n)
   unfolding measureOf
   measured-done n ok en = record { answer-is = rw ok (ap done-with en) }
 

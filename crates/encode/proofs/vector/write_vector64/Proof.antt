@@ -24,7 +24,6 @@ use Rattle.encode.proofs.vector.write_vector64.Lts as lts
 use Rattle.decimal.proofs.signed.to_word64.Reads as to-word64-reads
 use Rattle.encode.proofs.lists.put_exceptions64.Reads as put-exceptions64-reads
 use Rattle.encode.proofs.scan.packed_end64.Reads as packed-end64-reads
-use Rattle.encode.proofs.scan.scan64.Reads as scan64-reads
 use Rattle.encode.proofs.scan.vector_size64.Reads as vector-size64-reads
 use Rattle.encode.proofs.scan.width_of64.Reads as width-of64-reads
 use Rattle.encode.proofs.vector.pack64.Reads as pack64-reads
@@ -41,53 +40,54 @@ Vs s = now (s .args .values)
 abbrev D : tie.Start → List ℕ
 D s = now (s .args .out)
 
-abbrev S : tie.After-scan64 → Seen
-S c = asSeen64 (c .scan64 .result)
+abbrev S : tie.Start → Seen
+S s = asSeen64 (s .args .seen)
 
-kept : (c : tie.After-scan64) → Kept (S c)
-kept c = let s = c .before .before .before in kept-is binary64 (Q s) (Vs s) (S c) (c .scan64 .ensures) (s .pre .1)
+kept : (s : tie.Start) → Kept (S s)
+kept s = kept-is binary64 (Q s) (Vs s) (S s) (s .pre .2) (s .pre .1)
 
 abbrev O1 : tie.After-put-meta64 → List ℕ
 O1 c = c .put-meta64 .last .1 .1 .1 .1 .1 .0
 
-meta-is : (c : tie.After-put-meta64) → O1 c ≡ over (metaPart binary64 (Q (c .before .before .before .before .before .before .before .before)) (Vs (c .before .before .before .before .before .before .before .before)) (S (c .before .before .before .before .before)) (c .before .before .before .before .before .scan64 .ensures)) (D (c .before .before .before .before .before .before .before .before))
+abbrev S1 : tie.After-put-meta64 → tie.Start
+S1 c = c .before .before .before .before .before .before .before
+
+meta-is : (c : tie.After-put-meta64) → O1 c ≡ over (metaPart binary64 (Q (S1 c)) (Vs (S1 c)) (S (S1 c)) (S1 c .pre .2)) (D (S1 c))
 meta-is c =
-    let s = c .before .before .before .before .before .before .before .before in
-    let k = c .before .before .before .before .before in
-    let word : c .before .before .before .to-word64 .result ≡ ofZ w64 (k .scan64 .result .smallest) = c .before .before .before .to-word64 .ensures ∙ ap (ofZ w64) (toZ-ofZ w64 (k .scan64 .result .smallest) (record { sfits = c .before .before .before .before .struct-told .given .1 .1 .1 .0 .1 })) in
-    meta-put binary64 (Q s) (Vs s) (S k) (k .scan64 .ensures) (D s) (s .pre .2) (k .scan64 .result .listed) (c .before .before .before .to-word64 .result) (c .before .before .width-of64 .result) (O1 c) refl word (c .before .before .width-of64 .ensures .0) (c .put-meta64 .ensures)
+    let s = S1 c in
+    let word : c .before .before .before .to-word64 .result ≡ ofZ w64 (s .args .seen .smallest) = c .before .before .before .to-word64 .ensures ∙ ap (ofZ w64) (toZ-ofZ w64 (s .args .seen .smallest) (record { sfits = c .before .before .before .before .struct-told .given .1 .1 .1 .0 .1 })) in
+    meta-put binary64 (Q s) (Vs s) (S s) (s .pre .2) (D s) (s .pre .3) (s .args .seen .listed) (c .before .before .before .to-word64 .result) (c .before .before .width-of64 .result) (O1 c) refl word (c .before .before .width-of64 .ensures .0) (c .put-meta64 .ensures)
 
 abbrev O2 : tie.After-pack64 → List ℕ
 O2 c = putMid 13 (c .before .before .packed-end64 .result - 13) (O1 (c .before .before .before .before .before)) (c .pack64 .last .1 .1 .1 .1 .0)
 
-packed-is : (c : tie.After-pack64) → O2 c ≡ over (metaPart binary64 (Q (c .before .before .before .before .before .before .before .before .before .before .before .before .before)) (Vs (c .before .before .before .before .before .before .before .before .before .before .before .before .before)) (S (c .before .before .before .before .before .before .before .before .before .before)) (c .before .before .before .before .before .before .before .before .before .before .scan64 .ensures) ++ packedPart binary64 (Q (c .before .before .before .before .before .before .before .before .before .before .before .before .before)) (Vs (c .before .before .before .before .before .before .before .before .before .before .before .before .before)) (S (c .before .before .before .before .before .before .before .before .before .before)) (c .before .before .before .before .before .before .before .before .before .before .scan64 .ensures)) (D (c .before .before .before .before .before .before .before .before .before .before .before .before .before))
-packed-is c =
-    let s = c .before .before .before .before .before .before .before .before .before .before .before .before .before in
-    let k = c .before .before .before .before .before .before .before .before .before .before in
-    let w = c .before .before .before .before .before .before .before .width-of64 in
-    packed-put binary64 (Q s) (Vs s) (S k) (k .scan64 .ensures) (D s) (s .pre .2) (c .before .before .packed-end64 .result) (c .before .before .packed-end64 .ensures .0) (O1 (c .before .before .before .before .before)) (meta-is (c .before .before .before .before .before)) (c .pack64 .last .1 .1 .1 .1 .0) (w .result) (w .ensures .0) (c .pack64 .ensures)
+abbrev S2 : tie.After-pack64 → tie.Start
+S2 c = S1 (c .before .before .before .before .before)
 
-scan64-requires : tie.Need-scan64-requires
-scan64-requires c κs = search needs
+packed-is : (c : tie.After-pack64) → O2 c ≡ over (metaPart binary64 (Q (S2 c)) (Vs (S2 c)) (S (S2 c)) (S2 c .pre .2) ++ packedPart binary64 (Q (S2 c)) (Vs (S2 c)) (S (S2 c)) (S2 c .pre .2)) (D (S2 c))
+packed-is c =
+    let s = S2 c in
+    let w = c .before .before .before .before .before .before .before .width-of64 in
+    packed-put binary64 (Q s) (Vs s) (S s) (s .pre .2) (D s) (s .pre .3) (c .before .before .packed-end64 .result) (c .before .before .packed-end64 .ensures .0) (O1 (c .before .before .before .before .before)) (meta-is (c .before .before .before .before .before)) (c .pack64 .last .1 .1 .1 .1 .0) (w .result) (w .ensures .0) (c .pack64 .ensures)
 
 to-word64-requires : tie.Need-to-word64-requires
 to-word64-requires c κs = search needs
 
 width-of64-requires : tie.Need-width-of64-requires
-width-of64-requires c κs = kept (c .before .before)
+width-of64-requires c κs = kept (c .before .before .before .before)
 
 cast-put-meta64 : tie.Need-cast-put-meta64
 cast-put-meta64 c =
-    let k = kept (c .before .before .before) in
+    let k = kept (c .before .before .before .before .before) in
     omega (arith, k .few, k .short)
 
 put-meta64-requires : tie.Need-put-meta64-requires
 put-meta64-requires c κs =
-    let s = c .before .before .before .before .before .before .before in
-    meta-room binary64 (Q s) (Vs s) (S (c .before .before .before .before)) (c .before .before .before .before .scan64 .ensures) (D s) (s .pre .2)
+    let s = c .before .before .before .before .before .before in
+    meta-room binary64 (Q s) (Vs s) (S s) (s .pre .2) (D s) (s .pre .3)
 
 packed-end64-requires : tie.Need-packed-end64-requires
-packed-end64-requires c κs = kept (c .before .before .before .before .before .before .before)
+packed-end64-requires c κs = kept (S1 (c .before .before))
 
 cast-pack64 : tie.Need-cast-pack64
 cast-pack64 c = search needs
@@ -100,23 +100,25 @@ part-pack64-start c = search needs
 
 part-pack64-end : tie.Need-part-pack64-end
 part-pack64-end c =
-    let s = c .before .before .before .before .before .before .before .before .before .before .before in
-    packed-end binary64 (Q s) (Vs s) (S (c .before .before .before .before .before .before .before .before)) (c .before .before .before .before .before .before .before .before .scan64 .ensures) (D s) (s .pre .2) (c .packed-end64 .result) (c .packed-end64 .ensures .0) (O1 (c .before .before .before)) (meta-is (c .before .before .before))
+    let p = c .before .before .before in
+    let s = S1 p in
+    packed-end binary64 (Q s) (Vs s) (S s) (s .pre .2) (D s) (s .pre .3) (c .packed-end64 .result) (c .packed-end64 .ensures .0) (O1 p) (meta-is p)
 
 pack64-requires : tie.Need-pack64-requires
 pack64-requires c κs =
-    let s = c .before .before .before .before .before .before .before .before .before .before .before .before in
-    let k = c .before .before .before .before .before .before .before .before .before in
-    let w = c .before .before .before .before .before .before .width-of64 in (
+    let p = c .before .before .before .before in
+    let s = S1 p in
+    let w = p .before .before .width-of64 in
+    let e = c .before .packed-end64 in (
       s .pre .0,
       s .pre .1,
-      k .scan64 .ensures,
-      w .ensures .0 ∙ width-is binary64 (Q s) (Vs s) (S k) (k .scan64 .ensures),
-      packed-room binary64 (Q s) (Vs s) (S k) (k .scan64 .ensures) (D s) (s .pre .2) (c .before .packed-end64 .result) (c .before .packed-end64 .ensures .0) (O1 (c .before .before .before .before)) (meta-is (c .before .before .before .before)) ∙ ap (packedSize (length (Vs s))) (sym (w .ensures .0)),
+      s .pre .2,
+      w .ensures .0 ∙ width-is binary64 (Q s) (Vs s) (S s) (s .pre .2),
+      packed-room binary64 (Q s) (Vs s) (S s) (s .pre .2) (D s) (s .pre .3) (e .result) (e .ensures .0) (O1 p) (meta-is p) ∙ ap (packedSize (length (Vs s))) (sym (w .ensures .0)),
     )
 
 vector-size64-requires : tie.Need-vector-size64-requires
-vector-size64-requires c κs = kept (c .before .before .before .before .before .before .before .before .before .before .before .before)
+vector-size64-requires c κs = kept (S2 (c .before .before))
 
 sub-put-exceptions64 : tie.Need-sub-put-exceptions64
 sub-put-exceptions64 c = search needs
@@ -126,18 +128,20 @@ part-put-exceptions64-start c = search needs
 
 part-put-exceptions64-end : tie.Need-part-put-exceptions64-end
 part-put-exceptions64-end c =
-    let s = c .before .before .before .before .before .before .before .before .before .before .before .before .before .before .before .before in
-    let k = c .before .before .before .before .before .before .before .before .before .before .before .before .before in
-    lists-end binary64 (Q s) (Vs s) (S k) (k .scan64 .ensures) (D s) (s .pre .2) (c .before .before .before .before .before .packed-end64 .result) (c .before .before .before .before .before .packed-end64 .ensures .0) (c .vector-size64 .result) (c .vector-size64 .ensures) (O2 (c .before .before .before)) (packed-is (c .before .before .before))
+    let p = c .before .before .before in
+    let s = S2 p in
+    let e = c .before .before .before .before .before .packed-end64 in
+    lists-end binary64 (Q s) (Vs s) (S s) (s .pre .2) (D s) (s .pre .3) (e .result) (e .ensures .0) (c .vector-size64 .result) (c .vector-size64 .ensures) (O2 p) (packed-is p)
 
 put-exceptions64-requires : tie.Need-put-exceptions64-requires
 put-exceptions64-requires c κs =
-    let s = c .before .before .before .before .before .before .before .before .before .before .before .before .before .before .before .before .before in
-    let k = c .before .before .before .before .before .before .before .before .before .before .before .before .before .before in (
+    let p = c .before .before .before .before in
+    let s = S2 p in
+    let e = c .before .before .before .before .before .before .packed-end64 in (
       s .pre .0,
       s .pre .1,
-      listed-is binary64 (Q s) (Vs s) (S k) (k .scan64 .ensures),
-      lists-room binary64 (Q s) (Vs s) (S k) (k .scan64 .ensures) (D s) (s .pre .2) (c .before .before .before .before .before .before .packed-end64 .result) (c .before .before .before .before .before .before .packed-end64 .ensures .0) (c .before .vector-size64 .result) (c .before .vector-size64 .ensures) (O2 (c .before .before .before .before)) (packed-is (c .before .before .before .before)),
+      listed-is binary64 (Q s) (Vs s) (S s) (s .pre .2),
+      lists-room binary64 (Q s) (Vs s) (S s) (s .pre .2) (D s) (s .pre .3) (e .result) (e .ensures .0) (c .before .vector-size64 .result) (c .before .vector-size64 .ensures) (O2 p) (packed-is p),
     )
 
 same-length : tie.Need-same-length
@@ -145,18 +149,19 @@ same-length c = search needs
 
 returns : tie.Need-returns
 returns c =
-    let s = c .before .before .before .before .before .before .before .before .before .before .before .before .before .before .before .before .before .before .before .before in
-    let k = c .before .before .before .before .before .before .before .before .before .before .before .before .before .before .before .before .before in
+    let p = c .before .before .before .before .before .before .before in
+    let s = S2 p in
+    let e = c .before .before .before .before .before .before .before .before .before .packed-end64 in
+    let z = c .before .before .before .before .vector-size64 in
     let u = c .before .before .put-exceptions64 in (
-      c .before .before .before .before .vector-size64 .ensures ∙ vector-long binary64 (Q s) (Vs s) (S k) (k .scan64 .ensures),
-      vector-put binary64 (Q s) (Vs s) (S k) (k .scan64 .ensures) (D s) (s .pre .2) (c .before .before .before .before .before .before .before .before .before .packed-end64 .result) (c .before .before .before .before .before .before .before .before .before .packed-end64 .ensures .0) (c .before .before .before .before .vector-size64 .result) (c .before .before .before .before .vector-size64 .ensures) (O2 (c .before .before .before .before .before .before .before)) (packed-is (c .before .before .before .before .before .before .before)) (u .last .1 .1 .1 .0) (u .ensures),
+      z .ensures ∙ vector-long binary64 (Q s) (Vs s) (S s) (s .pre .2),
+      vector-put binary64 (Q s) (Vs s) (S s) (s .pre .2) (D s) (s .pre .3) (e .result) (e .ensures .0) (z .result) (z .ensures) (O2 p) (packed-is p) (u .last .1 .1 .1 .0) (u .ensures),
     )
 
 pub write-vector64-spec : {M : Type 1} → statement M
 write-vector64-spec =
     tie.close
     (tie.spec
-    scan64-requires
     to-word64-requires
     width-of64-requires
     cast-put-meta64
