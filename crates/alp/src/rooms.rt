@@ -7,7 +7,8 @@ pub fn page_file() -> [u8; 329737] {
     [0; 329737]
 }
 
-// What the writer asks for at most, so that it never refuses by 15.
+// No page of the kind is longer (`no-page-is-longer`, `longest-32` and `longest-64` in theorems/proofs/Longer), so whatever measuring answers
+// fits.
 pub fn page32() -> [u8; 190472] {
     [0; 190472]
 }

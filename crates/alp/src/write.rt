@@ -27,6 +27,8 @@ use rules::Answer;
 use sentences::done;
 use sentences::error;
 use sentences::refusal;
+use writer::measure32;
+use writer::measure64;
 use writer::write32;
 use writer::write64;
 ghost use Prim.Native.Nat.{_*_, _≤_};
@@ -159,13 +161,21 @@ fn write_values64(settings: Settings, values: &[u64]) {
     write_to64(settings, values, &mut pairs, &mut page);
 }
 
+// Measuring gives the page's exact size, and no page is longer than the room (rooms.rt), so `least` cuts nothing off and the writer fills
+// what it is lent.
 fn write_to32(settings: Settings, values: &[u32], pairs: &mut [u8], page: &mut [u8])
     requires { ⌜ 32768 ≤ length (now pairs) ⌝ }
 {
     let k = pairs_length(settings.s, values.len());
     fill_pairs(&mut pairs[0..k], settings.exponent, settings.factor);
-    let answer = write32(values, settings.s, &pairs[0..k], page);
-    finish(answer, page);
+    let measured = measure32(values, settings.s, &pairs[0..k]);
+    if measured.number != 0 {
+        refusal(measured);
+        return;
+    }
+    let n = least(measured.place as usize, page.len());
+    let answer = write32(values, settings.s, &pairs[0..k], &mut page[0..n]);
+    finish(answer, &page[0..n]);
 }
 
 fn write_to64(settings: Settings, values: &[u64], pairs: &mut [u8], page: &mut [u8])
@@ -173,18 +183,23 @@ fn write_to64(settings: Settings, values: &[u64], pairs: &mut [u8], page: &mut [
 {
     let k = pairs_length(settings.s, values.len());
     fill_pairs(&mut pairs[0..k], settings.exponent, settings.factor);
-    let answer = write64(values, settings.s, &pairs[0..k], page);
-    finish(answer, page);
+    let measured = measure64(values, settings.s, &pairs[0..k]);
+    if measured.number != 0 {
+        refusal(measured);
+        return;
+    }
+    let n = least(measured.place as usize, page.len());
+    let answer = write64(values, settings.s, &pairs[0..k], &mut page[0..n]);
+    finish(answer, &page[0..n]);
 }
 
-// Done's place is the page's length, so `least` cuts nothing off.
+// What the writer was lent is the page, to its last byte.
 fn finish(answer: Answer, page: &[u8]) {
     if answer.number != 0 {
         refusal(answer);
         return;
     }
-    let n = least(answer.place as usize, page.len());
-    if save(&WHO, 7, &page[0..n]) {
+    if save(&WHO, 7, page) {
         done(answer, b"wrote a page of ", b"byte");
     }
 }
