@@ -88,24 +88,23 @@ fn column32(n: usize, s: u8, vectors: usize) {
     measured32(&values[0..n], s, vectors);
 }
 
-// Measured, then written.
+// Measured, then written into exactly so many bytes.
 fn measured32(values: &[u32], s: u8, vectors: usize) {
     let pairs = pairs_room();
     if 2050 < vectors {
         return;
     }
     let settings = &pairs[0..2 * vectors];
-    said(
-        32,
-        s,
-        values.len(),
-        b" measure ",
-        measure32(values, s, settings),
-    );
+    let measured = measure32(values, s, settings);
+    said(32, s, values.len(), b" measure ", measured);
     end();
     let mut page = page_room32();
-    let wrote = write32(values, s, settings, &mut page);
-    finish32(&page, wrote, values, s);
+    if 200000 < measured.place {
+        return;
+    }
+    let out = &mut page[0..measured.place as usize];
+    let wrote = write32(values, s, settings, out);
+    finish32(out, wrote, values, s);
 }
 
 // What was written, and what reader and examiner make of it.
@@ -172,24 +171,23 @@ fn column64(n: usize, s: u8, vectors: usize) {
     measured64(&values[0..n], s, vectors);
 }
 
-// Measured, then written.
+// Measured, then written into exactly so many bytes.
 fn measured64(values: &[u64], s: u8, vectors: usize) {
     let pairs = pairs_room();
     if 2050 < vectors {
         return;
     }
     let settings = &pairs[0..2 * vectors];
-    said(
-        64,
-        s,
-        values.len(),
-        b" measure ",
-        measure64(values, s, settings),
-    );
+    let measured = measure64(values, s, settings);
+    said(64, s, values.len(), b" measure ", measured);
     end();
     let mut page = page_room64();
-    let wrote = write64(values, s, settings, &mut page);
-    finish64(&page, wrote, values, s);
+    if 330000 < measured.place {
+        return;
+    }
+    let out = &mut page[0..measured.place as usize];
+    let wrote = write64(values, s, settings, out);
+    finish64(out, wrote, values, s);
 }
 
 // What was written, and what reader and examiner make of it.

@@ -1,7 +1,9 @@
-// Runs document 01's recordings, a page read vector by vector, and columns of edge lengths through the library and prints what each call
-// answers and gives; the gate holds the output to what an independent program over exact fractions gives.
+// Runs document 01's recordings, a page read vector by vector, a column written into outputs of edge lengths, and columns of edge lengths
+// through the library and prints what each call answers and gives; the gate holds the output to what an independent program over exact
+// fractions gives.
 mod columns;
 mod examined;
+mod lent;
 mod pages;
 mod refused;
 mod show;
@@ -13,5 +15,6 @@ fn main() {
     refused::run();
     examined::run();
     vectors::run();
+    lent::run();
     columns::run();
 }
