@@ -6,6 +6,8 @@
 use crate::floats::{Kind, KINDS, LARGEST_32, LARGEST_64, TENS_64};
 use crate::layout::{bound, is_vector_size, vectors, MOST_VALUES};
 use crate::random::Random;
+use crate::rooms::{exceptions, Room, Shape, ENOUGH};
+use crate::write::measure;
 
 /// Everything that a writer is lent; the room is the output's length.
 pub struct Column {
@@ -15,6 +17,22 @@ pub struct Column {
     pub values: Vec<u64>,
     pub pairs: Vec<u8>,
     pub room: usize,
+}
+
+impl Column {
+    /// The page's size and document 01's bound, as the column stands. Where the
+    /// settings have no page, the bound stands in for it.
+    pub fn sizes(&self) -> (usize, usize) {
+        let s = if is_vector_size(self.s) { self.s } else { 10 };
+        let bound = bound(self.kind, self.values.len(), vectors(self.values.len(), s));
+        let page = measure(self.kind, self.s, &self.values, &self.pairs);
+        (page.unwrap_or(bound), bound)
+    }
+
+    fn lend(&mut self, room: Room, random: &mut Random) {
+        let (page, bound) = self.sizes();
+        self.room = room.length(page, bound, random);
+    }
 }
 
 /// How a value is made.
@@ -181,27 +199,47 @@ fn vector_values(kind: Kind, pair: Pair, count: usize, random: &mut Random) -> V
     values
 }
 
-/// A column without a fault, of a given size.
+/// A column without a fault, of a given size, and room that is enough.
 pub fn sound_column(kind: Kind, s: u8, count: usize, random: &mut Random) -> Column {
-    let vectors = vectors(count, s);
     let same = any_pair(kind, random);
     let vary = random.one_in(2);
-    let mut column = Column {
-        note: "sound".into(),
-        kind,
-        s,
-        values: Vec::new(),
-        pairs: Vec::new(),
-        room: bound(kind, count, vectors),
-    };
+    let mut column =
+        Column { note: "sound".into(), kind, s, values: Vec::new(), pairs: Vec::new(), room: 0 };
     while column.values.len() < count {
         let pair = if vary { any_pair(kind, random) } else { same };
         let size = (1 << s).min(count - column.values.len());
         column.values.extend(vector_values(kind, pair, size, random));
         column.pairs.extend([pair.exponent as u8, pair.factor as u8]);
     }
-    if random.one_in(2) {
-        column.room += random.between(1, 100);
+    let room = *random.choose(&ENOUGH);
+    column.lend(room, random);
+    column
+}
+
+/// A column without a fault whose page has this shape. How much is lent for it
+/// is the caller's to choose.
+pub fn shaped_column(kind: Kind, shape: Shape, random: &mut Random) -> Column {
+    let s = *random.choose(&[3, 3, 3, 4, 4, 5, 6, 7, 8, 9, 10]);
+    let size = 1 << s;
+    let count = match shape {
+        Shape::NoVectors => 0,
+        Shape::OneVector | Shape::OneWithExceptions => random.between(1, size),
+        Shape::ManyVectors | Shape::ManyWithExceptions => {
+            let full = random.between(1, (MOST_VALUES / size - 1).min(20));
+            size * full + random.between(1, size)
+        }
+    };
+    let mut column = sound_column(kind, s, count, random);
+    let listed = exceptions(kind, s, &column.values, &column.pairs);
+    if !shape.has_exceptions() {
+        // Zero is no exception, whatever the pair is.
+        for position in listed {
+            column.values[position] = 0;
+        }
+    } else if listed.is_empty() {
+        for _ in 0..random.between(1, 3) {
+            column.values[random.below(count)] = kind.nearest(f64::INFINITY);
+        }
     }
     column
 }
@@ -266,16 +304,10 @@ const SPOILS: [(&str, Spoil); 11] = [
         let exponent = random.between(column.kind.largest_exponent() + 1, 254) as u8;
         put_pair(column, random, |_| (exponent, exponent + 1));
     }),
-    ("room one short", |column, _| column.room = least_room(column).saturating_sub(1)),
-    ("room short", |column, random| column.room = random.below(least_room(column))),
-    ("no room", |column, _| column.room = 0),
+    ("room one short", |column, random| column.lend(Room::OneShort, random)),
+    ("room short", |column, random| column.lend(Room::Short, random)),
+    ("no room", |column, random| column.lend(Room::Nothing, random)),
 ];
-
-/// The bound of the column as it stands.
-fn least_room(column: &Column) -> usize {
-    let s = if is_vector_size(column.s) { column.s } else { 10 };
-    bound(column.kind, column.values.len(), vectors(column.values.len(), s))
-}
 
 /// Changes the pair of one vector, if there is one.
 fn put_pair(column: &mut Column, random: &mut Random, make: impl Fn(u8) -> (u8, u8)) {

@@ -5,7 +5,7 @@ use std::fmt::Write;
 
 use crate::answer::{Answer, Call, Outcome};
 use crate::ask::{every, two, worn, Question};
-use crate::columns::column;
+use crate::columns::{column, shaped_column};
 use crate::driver::{split, Program, Running};
 use crate::floats::{Kind, KINDS};
 use crate::forge::forged;
@@ -13,6 +13,7 @@ use crate::frames::{self, value_bytes, Reply, Request, MALFORMED};
 use crate::random::Random;
 use crate::read::{parse_header, read};
 use crate::read_vector::read_vector;
+use crate::rooms::{self, SHAPES};
 use crate::tally::Tally;
 use crate::widths::{page_at, COUNTS};
 
@@ -51,6 +52,10 @@ const COLUMNS: u64 = 1;
 const PAGES: u64 = 2;
 const WORN: u64 = 3;
 const WIDTHS: u64 = 4;
+const ROOMS: u64 = 5;
+
+/// How many columns of each shape are written into every room.
+const SHAPED: usize = 12;
 
 /// A comparison with one program, and what it has found so far.
 pub struct Comparison<'a> {
@@ -172,6 +177,32 @@ impl<'a> Comparison<'a> {
         self.finish()
     }
 
+    /// Compares columns of every shape, measured and written into every room:
+    /// by T-03 the page's size decides, wherever the bound lies.
+    pub fn rooms(&mut self, seed: u64) -> Result<(), String> {
+        for kind in KINDS {
+            for shape in SHAPES {
+                for turn in 0..SHAPED {
+                    let index = (kind.bits() * 10 + shape as usize) * 1_000 + turn;
+                    let mut random = Random::of_case(seed, ROOMS, index as u64);
+                    let made = shaped_column(kind, shape, &mut random);
+                    let (page, bound) = made.sizes();
+                    let (s, values, pairs) = (made.s, made.values, made.pairs);
+                    let origin = format!("seed {seed}, {}, turn {turn}", shape.text());
+                    let (v, p) = (values.clone(), pairs.clone());
+                    self.put(&origin, Request::Measure { kind, s, values: v, pairs: p })?;
+                    for room in rooms::ROOMS {
+                        let length = room.length(page, bound, &mut random);
+                        let (v, p, output) = (values.clone(), pairs.clone(), random.bytes(length));
+                        let write = Request::Write { kind, s, values: v, pairs: p, output };
+                        self.put(&format!("{origin} ({})", room.text()), write)?;
+                    }
+                }
+            }
+        }
+        self.finish()
+    }
+
     /// Asks for vectors of a page.
     fn ask(
         &mut self,
@@ -266,6 +297,7 @@ impl<'a> Comparison<'a> {
         if let (Some(width), true) = (case.width, own.0.is_ok()) {
             self.tally.count_width(case.request.kind(), width);
         }
+        self.count_room(&case.request);
         if other != Some(&own.1) {
             self.report(&describe(case, own, other));
         }
@@ -275,6 +307,14 @@ impl<'a> Comparison<'a> {
                 Err(format!("the program takes the frame of {} as malformed", case.origin))
             }
             Some(_) => Ok(()),
+        }
+    }
+
+    /// Counts what was lent for which page, of a writer's request that has one.
+    fn count_room(&mut self, request: &Request) {
+        let Request::Write { kind, s, values, pairs, output } = request else { return };
+        if let Some((shape, room)) = rooms::lent(*kind, *s, values, pairs, output.len()) {
+            self.tally.count_room(*kind, shape, room);
         }
     }
 

@@ -121,7 +121,7 @@ impl Request {
     pub fn perform(&self) -> (Outcome, Reply) {
         match self {
             Request::Measure { kind, s, values, pairs } => {
-                reply(measure(*kind, *s, values.len(), pairs), Vec::new())
+                reply(measure(*kind, *s, values, pairs), Vec::new())
             }
             Request::Write { kind, s, values, pairs, output } => {
                 let mut output = output.clone();

@@ -43,7 +43,8 @@ pub fn vector_bytes(kind: Kind, count: usize, width: usize, exceptions: usize) -
     metadata(kind) + packed_bytes(count, width) + exceptions * (POSITION + kind.size())
 }
 
-/// The bound that the writer measures its output by (004, section 9.3).
+/// Document 01's bound (004, section 9.3): no page of so many values is longer.
+/// By T-03 it is that alone; what the writer asks for is the page's own size.
 pub fn bound(kind: Kind, count: usize, vectors: usize) -> usize {
     HEADER + vectors * (OFFSET + metadata(kind)) + count * (2 * kind.size() + POSITION)
 }

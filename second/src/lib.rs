@@ -1,6 +1,7 @@
 //! An independent second program for ALP pages, written from document 01
 //! (the specification of the build) and source document 004 alone; and, for
-//! `read_vector`, from T-01 of document 02 (the changes requested).
+//! `read_vector` and the sizes in `write`, from T-01 and T-03 of document 02
+//! (the changes requested).
 //!
 //! It is meant to be read next to document 01: every rule stands in one place
 //! and nothing is optimised. The parts:
@@ -11,9 +12,9 @@
 //! - `write`, `read`, `examine`, `read_vector`: the calls;
 //! - `frames`: requests and answers as bytes, and the serving side;
 //! - `driver`: runs another program and talks to it in frames;
-//! - `random`, `columns`, `forge`, `widths`, `ask`: what the programs are
-//!   compared on;
-//! - `tally`: which refusals were met, and which are missing;
+//! - `random`, `columns`, `rooms`, `forge`, `widths`, `ask`: what the programs
+//!   are compared on;
+//! - `tally`: which refusals, widths and rooms were met, and which are missing;
 //! - `compare`: the comparison itself.
 
 pub mod answer;
@@ -29,6 +30,7 @@ pub mod layout;
 pub mod random;
 pub mod read;
 pub mod read_vector;
+pub mod rooms;
 pub mod tally;
 pub mod widths;
 pub mod write;

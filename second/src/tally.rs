@@ -1,10 +1,11 @@
-//! Counts which answers were given by which call, and says which rows of the
-//! table were never met.
+//! Counts which answers were given by which call, at which widths and in which
+//! rooms, and says what was never met.
 
 use std::fmt::Write;
 
 use crate::answer::{Call, Outcome, CALLS, TABLE};
 use crate::floats::{Kind, KINDS};
+use crate::rooms::{Room, Shape, ROOMS, SHAPES};
 
 /// Counts of one line of the table, by call and kind.
 #[derive(Clone, Copy, Default)]
@@ -21,6 +22,8 @@ pub struct Tally {
     spared: [u64; KINDS.len()],
     /// How many pages were read at each width, of those made for it.
     widths: [[u64; WIDTHS]; KINDS.len()],
+    /// How often each room was lent for a page of each shape.
+    rooms: [[[u64; KINDS.len()]; SHAPES.len()]; ROOMS.len()],
 }
 
 /// The widths of the larger kind: 0 to 64.
@@ -30,7 +33,8 @@ impl Default for Tally {
     fn default() -> Tally {
         let refused = vec![Counts::default(); TABLE.len()];
         let (spared, widths) = ([0; KINDS.len()], [[0; WIDTHS]; KINDS.len()]);
-        Tally { done: Counts::default(), refused, spared, widths }
+        let rooms = [[[0; KINDS.len()]; SHAPES.len()]; ROOMS.len()];
+        Tally { done: Counts::default(), refused, spared, widths, rooms }
     }
 }
 
@@ -54,15 +58,36 @@ impl Tally {
         self.widths[kind as usize][width] += 1;
     }
 
+    pub fn count_room(&mut self, kind: Kind, shape: Shape, room: Room) {
+        self.rooms[room as usize][shape as usize][kind as usize] += 1;
+    }
+
     /// How many pages were read at each width that a kind has.
     fn widths(&self, kind: Kind) -> &[u64] {
         &self.widths[kind as usize][..=kind.bits()]
     }
 
-    /// Every line that a call of a kind has never given though it should, and
-    /// every vector's line that it has given of no later vector.
-    pub fn missing(&self) -> Vec<String> {
+    /// Every room that was never lent for a page of a shape.
+    fn missing_rooms(&self) -> Vec<String> {
         let mut missing = Vec::new();
+        for room in ROOMS {
+            for shape in SHAPES.into_iter().filter(|shape| shape.takes(room)) {
+                for kind in KINDS {
+                    if self.rooms[room as usize][shape as usize][kind as usize] == 0 {
+                        let (lent, of, bits) = (room.text(), shape.text(), kind.bits());
+                        missing.push(format!("room of write: {lent}, for {of}, {bits}-bit"));
+                    }
+                }
+            }
+        }
+        missing
+    }
+
+    /// Every line that a call of a kind has never given though it should, and
+    /// every vector's line that it has given of no later vector; and what else
+    /// is counted.
+    pub fn missing(&self) -> Vec<String> {
+        let mut missing = self.missing_rooms();
         for kind in KINDS.into_iter().filter(|kind| self.spared[*kind as usize] == 0) {
             missing.push(format!("a vector of a page that read refuses, {}-bit", kind.bits()));
         }
@@ -112,6 +137,28 @@ impl Tally {
         for kind in KINDS {
             let (pages, most) = (self.widths(kind).iter().sum::<u64>(), kind.bits());
             let _ = writeln!(text, "pages read at widths 0 to {most}, {most}-bit: {pages}");
+        }
+        text.push_str(&self.table_of_rooms());
+        text
+    }
+
+    /// What was lent to the writer, by the shape of the page: how often of
+    /// 32-bit values, and of 64-bit ones.
+    fn table_of_rooms(&self) -> String {
+        let mut text = format!("\n{:<30}", "room of write, 32 and 64 bits");
+        for shape in SHAPES {
+            let _ = write!(text, "{:>18}", shape.text());
+        }
+        text.push('\n');
+        for room in ROOMS {
+            let _ = write!(text, "{:<30}", room.text());
+            for shape in SHAPES {
+                let [single, double] = self.rooms[room as usize][shape as usize];
+                let met = format!("{single} {double}");
+                let cell = if shape.takes(room) { met } else { "-".into() };
+                let _ = write!(text, "{cell:>18}");
+            }
+            text.push('\n');
         }
         text
     }

@@ -1,26 +1,59 @@
 //! The writer and its measuring step: rows 5, 6, 16, then 9 and 10 vector by
-//! vector, then 15.
+//! vector; then, for the writer, 15 if the output is shorter than the page
+//! (document 02's T-03).
 
 use crate::answer::{refuse, refuse_in, Fault, Outcome, Refusal};
 use crate::floats::Kind;
 use crate::layout::{self, push_number};
 
-/// The settings' rows, then the bound as the count.
-pub fn measure(kind: Kind, s: u8, count: usize, pairs: &[u8]) -> Outcome {
+/// The settings' rows, then the page's exact size as the count.
+pub fn measure(kind: Kind, s: u8, values: &[u64], pairs: &[u8]) -> Outcome {
+    check_settings(kind, s, values.len(), pairs)?;
+    let vectors = layout::vectors(values.len(), s);
+    let size = layout::HEADER + layout::OFFSET * vectors + vector_sizes(kind, s, values, pairs);
+    let bound = layout::bound(kind, values.len(), vectors);
+    assert!(size <= bound, "a page of {size} bytes, above document 01's bound of {bound}");
+    Ok(size)
+}
+
+/// Rows 5, 6, 16, then 9 and 10 vector by vector.
+fn check_settings(kind: Kind, s: u8, count: usize, pairs: &[u8]) -> Result<(), Refusal> {
     if !layout::is_vector_size(s) {
         return refuse(Fault::VectorSize);
     }
     if count > layout::MOST_VALUES {
         return refuse(Fault::TooManyValues);
     }
-    let vectors = layout::vectors(count, s);
-    if pairs.len() != 2 * vectors {
+    if pairs.len() != 2 * layout::vectors(count, s) {
         return refuse(Fault::PairsPerVector);
     }
     for (vector, pair) in pairs.chunks_exact(2).enumerate() {
         check_pair(kind, pair[0], pair[1], vector)?;
     }
-    Ok(layout::bound(kind, count, vectors))
+    Ok(())
+}
+
+/// Bytes of all vectors, for sound settings.
+fn vector_sizes(kind: Kind, s: u8, values: &[u64], pairs: &[u8]) -> usize {
+    let vectors = values.chunks(1 << s).zip(pairs.chunks_exact(2));
+    vectors.map(|(values, pair)| vector_size(kind, values, pair[0], pair[1])).sum()
+}
+
+/// Bytes of one vector, from its values and not from what is written: a
+/// stand-in is the whole number of another value, so it makes no field wider;
+/// and of exceptions alone all fields are 0.
+fn vector_size(kind: Kind, values: &[u64], exponent: u8, factor: u8) -> usize {
+    let wholes: Vec<i64> = values
+        .iter()
+        .filter_map(|value| kind.whole(*value, exponent.into(), factor.into()))
+        .collect();
+    let width = match (wholes.iter().min(), wholes.iter().max()) {
+        (Some(least), Some(most)) => {
+            layout::width_of((i128::from(*most) - i128::from(*least)) as u64)
+        }
+        _ => 0,
+    };
+    layout::vector_bytes(kind, values.len(), width, values.len() - wholes.len())
 }
 
 /// Rows 9 and 10, for the writer and the reader alike.
@@ -36,11 +69,13 @@ pub fn check_pair(kind: Kind, exponent: u8, factor: u8, vector: usize) -> Result
 
 /// Writes a page into the output, or refuses and leaves it as it came.
 pub fn write(kind: Kind, s: u8, values: &[u64], pairs: &[u8], output: &mut [u8]) -> Outcome {
-    let bound = measure(kind, s, values.len(), pairs)?;
-    if output.len() < bound {
+    let size = measure(kind, s, values, pairs)?;
+    if output.len() < size {
         return refuse(Fault::OutputTooShort);
     }
     let page = page(kind, s, values, pairs);
+    // The size was summed up before; the bytes now have to say the same.
+    assert_eq!(page.len(), size, "the page has another length than was measured");
     output[..page.len()].copy_from_slice(&page);
     Ok(page.len())
 }

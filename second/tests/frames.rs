@@ -15,7 +15,7 @@ fn numbers(number: u64, vector: u64, place: u64) -> Vec<u8> {
     [number, vector, place].map(u64::to_le_bytes).concat()
 }
 
-/// 7.0, 7.0 as singles: a page of 21 bytes into a bound of 41.
+/// 7.0, 7.0 as singles: a page of 21 bytes into 41.
 fn write_request() -> Request {
     Request::Write {
         kind: Kind::Single,
@@ -52,9 +52,21 @@ fn an_answer_carries_the_whole_output() {
 }
 
 #[test]
+fn measuring_answers_the_length_of_the_page() {
+    let (values, pairs) = (vec![0x40E0_0000, 0x40E0_0000], vec![0, 0]);
+    let measure = Request::Measure { kind: Kind::Single, s: 10, values, pairs };
+    assert_eq!(said(&measure.to_bytes()), numbers(0, 0, 21));
+}
+
+#[test]
 fn a_refusal_carries_the_output_as_it_came() {
     let read = Request::Read { kind: Kind::Single, page: PAGE.to_vec(), output: vec![9] };
     assert_eq!(said(&read.to_bytes()), [&numbers(15, 0, 0)[..], &[9, 0, 0, 0]].concat());
+    let mut write = write_request();
+    if let Request::Write { output, .. } = &mut write {
+        output.truncate(20);
+    }
+    assert_eq!(said(&write.to_bytes()), [&numbers(15, 0, 0)[..], &[0xA5; 20]].concat());
 }
 
 #[test]

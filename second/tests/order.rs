@@ -1,9 +1,9 @@
 //! The order in which refusals are named, where an input breaks several
-//! rules, and the bounds that lie close together.
+//! rules, and the limits that lie close together.
 
 use second::answer::{answer_of, Answer, Outcome};
 use second::examine::examine;
-use second::floats::Kind;
+use second::floats::{Kind, LARGEST_32, LARGEST_64};
 use second::read::read;
 use second::read_vector::read_vector;
 use second::write::{measure, write};
@@ -26,16 +26,51 @@ fn writer_names_settings_before_pairs_before_room() {
     assert_eq!(numbers(write(kind, 3, &many[..9], &[1, 1, 10, 10], &mut none)), (15, 0, 0));
 }
 
+/// The column is measured as `size` bytes and fits in that and in more, up to
+/// past the bound; with a byte less, or with nothing, no byte is written.
+fn check_size(kind: Kind, values: &[u64], size: usize, bound: usize) {
+    let pairs = vec![0; 2 * values.len().div_ceil(8)];
+    assert_eq!(numbers(measure(kind, 3, values, &pairs)), (0, 0, size as u64));
+    for room in [0, 1, 8, size - 1, size, size + 1, bound - 1, bound, bound + 1] {
+        let mut output = vec![0xA5; room];
+        let answer = numbers(write(kind, 3, values, &pairs, &mut output));
+        let written = if room < size { 0 } else { size };
+        let wanted = if room < size { (15, 0, 0) } else { (0, 0, size as u64) };
+        assert_eq!(answer, wanted, "room {room}");
+        assert!(output[written..].iter().all(|byte| *byte == 0xA5), "room {room}");
+    }
+}
+
 #[test]
-fn writer_wants_its_bound_to_the_byte() {
-    for (kind, bound) in [(Kind::Single, 8 + 2 * 13 + 9 * 10), (Kind::Double, 8 + 2 * 17 + 9 * 18)]
+fn writer_wants_the_page_to_the_byte() {
+    for (kind, metadata, word) in [(Kind::Single, 9, 4), (Kind::Double, 13, 8)] {
+        let head = 8 + 2 * (4 + metadata);
+        let bound = head + 9 * (2 * word + 2);
+        check_size(kind, &[0; 9], head, bound);
+        // Whole numbers 0 to 5 in the first vector: 8 fields of 3 bits.
+        let mut values: Vec<u64> = (0..9).map(|i| kind.nearest(f64::from(i % 6))).collect();
+        check_size(kind, &values, head + 3, bound);
+        // The stand-in, 0, makes no field wider; alone in its vector, the
+        // exception leaves no bits to pack.
+        values[7] = kind.sign();
+        values[8] = kind.sign();
+        check_size(kind, &values, head + 3 + 2 * (2 + word), bound);
+        // Exceptions alone: the stand-ins are all 0, and nothing is packed.
+        check_size(kind, &[kind.nearest(f64::INFINITY); 9], head + 9 * (2 + word), bound);
+    }
+}
+
+#[test]
+fn the_bound_is_not_reached() {
+    // Six exceptions beside two numbers as far apart as there are: each number
+    // costs a whole word, and only the two aren't listed.
+    for (kind, metadata, word, largest) in
+        [(Kind::Single, 9, 4, f64::from(LARGEST_32)), (Kind::Double, 13, 8, LARGEST_64)]
     {
-        let values = vec![0; 9];
-        let pairs = [0, 0, 0, 0];
-        assert_eq!(numbers(measure(kind, 3, 9, &pairs)), (0, 0, bound));
-        let mut room = vec![0; bound as usize];
-        assert_eq!(write(kind, 3, &values, &pairs, &mut room[1..]).ok(), None);
-        assert!(write(kind, 3, &values, &pairs, &mut room).is_ok());
+        let mut values = vec![kind.nearest(f64::INFINITY); 8];
+        (values[2], values[5]) = (kind.nearest(largest), kind.nearest(-largest));
+        let bound = 8 + 4 + metadata + 8 * (2 * word + 2);
+        check_size(kind, &values, bound - 2 * (2 + word), bound);
     }
 }
 

@@ -25,16 +25,19 @@ fn numbers(outcome: Outcome) -> (u64, u64, u64) {
     (number, vector, place)
 }
 
-/// Writes with a little more room than the bound: the page, and nothing of
-/// the rest is touched.
+/// Writes into the very room measured and into a little more: the page, and
+/// nothing of the rest is touched. Into a byte less nothing is written.
 fn written(kind: Kind, s: u8, values: &[u64], pairs: &[u8]) -> Vec<u8> {
-    let bound = measure(kind, s, values.len(), pairs).expect("sound settings");
-    let mut output = vec![LEFT; bound + 7];
-    let length = write(kind, s, values, pairs, &mut output).expect("room enough");
-    assert!(length <= bound);
-    assert!(output[length..].iter().all(|byte| *byte == LEFT));
-    output.truncate(length);
-    output
+    let size = measure(kind, s, values, pairs).expect("sound settings");
+    let mut short = vec![LEFT; size - 1];
+    assert_eq!(numbers(write(kind, s, values, pairs, &mut short)), (15, 0, 0));
+    assert!(short.iter().all(|byte| *byte == LEFT));
+    let mut page = vec![LEFT; size];
+    assert_eq!(write(kind, s, values, pairs, &mut page), Ok(size));
+    let mut longer = vec![LEFT; size + 7];
+    assert_eq!(write(kind, s, values, pairs, &mut longer), Ok(size));
+    assert_eq!(longer, [&page[..], &[LEFT; 7]].concat());
+    page
 }
 
 /// A page that is written, read back and examined as done.
@@ -176,7 +179,7 @@ fn r15_vector_size() {
         let mut output = vec![LEFT; 100];
         assert_eq!(numbers(write(Kind::Single, s, &values, &[0, 0], &mut output)), (5, 0, 0));
         assert!(output.iter().all(|byte| *byte == LEFT));
-        assert_eq!(numbers(measure(Kind::Single, s, 2, &[0, 0])), (5, 0, 0));
+        assert_eq!(numbers(measure(Kind::Single, s, &values, &[0, 0])), (5, 0, 0));
     }
     for s in [3, 10] {
         let mut page = bytes(R5);
@@ -196,10 +199,10 @@ fn r16_count_of_values() {
     check_refused(&page, (7, 0, 0));
 
     let pairs = vec![0; 2 * 16];
-    assert_eq!(numbers(measure(Kind::Single, 10, 16_385, &[0; 34])), (6, 0, 0));
-    let bound = 8 + 16 * 13 + 16_384 * 10;
-    assert_eq!(numbers(measure(Kind::Single, 10, 16_384, &pairs)), (0, 0, bound));
+    assert_eq!(numbers(measure(Kind::Single, 10, &[0; 16_385], &[0; 34])), (6, 0, 0));
     let values = vec![0; 16_384];
+    let size = 8 + 16 * 13;
+    assert_eq!(numbers(measure(Kind::Single, 10, &values, &pairs)), (0, 0, size));
     let page = written(Kind::Single, 10, &values, &pairs);
     check_read(Kind::Single, &page, &values);
     assert_eq!(numbers(examine(Kind::Single, &page)), (0, 0, 16_384));
@@ -217,5 +220,6 @@ fn r17_pairs() {
         let mut output = vec![LEFT; 100];
         assert_eq!(numbers(write(Kind::Single, 10, &values, &pairs, &mut output)), (row, 0, 0));
         assert!(output.iter().all(|byte| *byte == LEFT));
+        assert_eq!(numbers(measure(Kind::Single, 10, &values, &pairs)), (row, 0, 0));
     }
 }
