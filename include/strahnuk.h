@@ -91,7 +91,7 @@ enum strahnuk_row {
     STRAHNUK_POSITION = 13,
     /* bytes after the last vector; read, examine */
     STRAHNUK_BYTES_AFTER = 14,
-    /* the lent output is too short; write, read, read vector */
+    /* the lent output is too short: shorter than the page, or than the values that are read; write, read, read vector */
     STRAHNUK_OUTPUT_TOO_SHORT = 15,
     /* the pairs are not one per vector; measure, write */
     STRAHNUK_PAIRS = 16,
@@ -111,17 +111,20 @@ enum strahnuk_row {
 };
 
 /*
- * Measure: the room that writing these values with these settings asks for. Done's place: that room in bytes,
- * 8 + vectors x (4 + metadata) + values x (2 x value size + 2), where metadata is 9 bytes (32-bit) or 13 (64-bit).
+ * Measure: the exact length of the page that writing these values with these settings gives. Done's place: that length in bytes. Nothing is
+ * written, but every value is looked at: it costs as much as the first of the passes that writing makes over the values.
  * Rows in order: 5, 6, 16, then 9 and 10 vector by vector.
+ *
+ * Who would rather not measure lends the upper limit: no page is longer than 8 + vectors x (4 + metadata) + values x (2 x value size + 2)
+ * bytes, where metadata is 9 bytes (32-bit) or 13 (64-bit).
  */
 strahnuk_answer alp_measure32(const uint32_t *values, size_t values_length, uint8_t s, const uint8_t *pairs, size_t pairs_length);
 strahnuk_answer alp_measure64(const uint64_t *values, size_t values_length, uint8_t s, const uint8_t *pairs, size_t pairs_length);
 
 /*
  * Write: the page of these values with these settings, into `out`. Done's place: the page's length in bytes.
- * Rows in order: 5, 6, 16, then 9 and 10 vector by vector, then 15 if `out` is shorter than the room that measuring gives, even where the
- * page itself would fit.
+ * Rows in order: 5, 6, 16, then 9 and 10 vector by vector, then 15 if `out` is shorter than the page. No byte is written before that is
+ * known, and `out` may have any length from the page's on: a longer one makes writing neither quicker nor slower.
  */
 strahnuk_answer alp_write32(const uint32_t *values, size_t values_length, uint8_t s, const uint8_t *pairs, size_t pairs_length,
                             uint8_t *out, size_t out_length);

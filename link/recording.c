@@ -209,13 +209,19 @@ static void expect_unread(const recording *r, const uint8_t *page, size_t page_l
 
 /* ---- the story ---- */
 
-static size_t tell_written(const recording *r, uint8_t *page)
+/* Document 01's bound: no page of so many values and vectors is longer. */
+static size_t upper_limit(const recording *r)
+{
+    const size_t metadata = r->bits == 32 ? 9 : 13;
+    return 8 + r->vectors * (4 + metadata) + r->count * (size_t)(2 * r->bits / 8 + 2);
+}
+
+static void tell_written(const recording *r, uint8_t *page)
 {
     char line[3 * ROOM + 80];
-    size_t metadata = r->bits == 32 ? 9 : 13, i, at;
-    /* document 01's bound */
-    size_t room = 8 + r->vectors * (4 + metadata) + r->count * (size_t)(2 * r->bits / 8 + 2);
-    expect_answer(measured(r), STRAHNUK_DONE, 0, room, r, "measure");
+    size_t i, at;
+    expect_answer(measured(r), STRAHNUK_DONE, 0, r->length, r, "measure");
+    expect(r->length <= upper_limit(r), r, "the page is longer than any may be");
 
     memset(page, UNTOUCHED_BYTE, ROOM);
     expect_answer(written(r, page, ROOM), STRAHNUK_DONE, 0, r->length, r, "write");
@@ -225,12 +231,31 @@ static size_t tell_written(const recording *r, uint8_t *page)
             fail(r->name, r->bits, line);
         }
     expect(untouched_bytes(page + r->length, page + ROOM), r, "a byte past the page was changed");
-    at = (size_t)snprintf(line, sizeof line, "count %lu, room %lu, page %lu:", (unsigned long)r->count, (unsigned long)room,
-                          (unsigned long)r->length);
+    at = (size_t)snprintf(line, sizeof line, "count %lu, page %lu as measured, at most %lu:", (unsigned long)r->count,
+                          (unsigned long)r->length, (unsigned long)upper_limit(r));
     for (i = 0; i < r->length; i++)
         at += (size_t)snprintf(line + at, sizeof line - at, " %02X", page[i]);
     show(r, line);
-    return room;
+}
+
+/* Every length is lent, from nothing to more than the upper limit: the page's own alone decides. */
+static void tell_rooms(const recording *r, const uint8_t *page)
+{
+    uint8_t out[ROOM];
+    size_t length;
+    expect(upper_limit(r) < ROOM, r, "the rooms end below the upper limit");
+    for (length = 0; length <= ROOM; length++) {
+        memset(out, UNTOUCHED_BYTE, ROOM);
+        if (length < r->length) {
+            expect_answer(written(r, out, length), STRAHNUK_OUTPUT_TOO_SHORT, 0, 0, r, "write with room shorter than the page");
+            expect(untouched_bytes(out, out + ROOM), r, "a refused write changed the output");
+        } else {
+            expect_answer(written(r, out, length), STRAHNUK_DONE, 0, r->length, r, "write with room for the page");
+            expect(memcmp(out, page, ROOM) == 0, r, "with other room the page is another, or a byte past it was changed");
+        }
+    }
+    show(r, "15, the lent output is too short, by one byte and by more; the output stays");
+    show(r, "the page's own length is room enough, and so is every longer one");
 }
 
 static void tell_read(const recording *r, const uint8_t *page)
@@ -273,15 +298,11 @@ static void tell_vectors(const recording *r, const uint8_t *page)
     show(r, "30, there is no vector of that number, behind the last; the output stays");
 }
 
-static void tell_refused(const recording *r, const uint8_t *page, size_t room)
+static void tell_refused(const recording *r, const uint8_t *page)
 {
-    uint8_t longer[ROOM], out[ROOM];
-    memset(out, UNTOUCHED_BYTE, ROOM);
-    expect_answer(written(r, out, room - 1), STRAHNUK_OUTPUT_TOO_SHORT, 0, 0, r, "write with room one byte short");
-    expect(untouched_bytes(out, out + ROOM), r, "a refused write changed the output");
-    expect_answer(written(r, out, room), STRAHNUK_DONE, 0, r->length, r, "write with the very room measured");
+    uint8_t longer[ROOM];
     expect_unread(r, page, r->length, NULL, r->count - 1, STRAHNUK_OUTPUT_TOO_SHORT, 0, "read with room one value short");
-    show(r, "15, the lent output is too short, by one byte or one value; the output stays");
+    show(r, "15, the lent output is too short, by one value; the output stays");
 
     memcpy(longer, page, r->length);
     longer[r->length] = 0;
@@ -302,7 +323,10 @@ static void tell_empty(int bits)
                   STRAHNUK_DONE, 0, 8, &none, "measure");
     expect_answer(bits == 32 ? alp_write32(NULL, 0, 10, NULL, 0, NULL, 0) : alp_write64(NULL, 0, 10, NULL, 0, NULL, 0),
                   STRAHNUK_OUTPUT_TOO_SHORT, 0, 0, &none, "write into nothing");
-    expect_answer(bits == 32 ? alp_write32(NULL, 0, 10, NULL, 0, page, ROOM) : alp_write64(NULL, 0, 10, NULL, 0, page, ROOM),
+    expect_answer(bits == 32 ? alp_write32(NULL, 0, 10, NULL, 0, page, 7) : alp_write64(NULL, 0, 10, NULL, 0, page, 7),
+                  STRAHNUK_OUTPUT_TOO_SHORT, 0, 0, &none, "write with room one byte short");
+    expect(untouched_bytes(page, page + ROOM), &none, "a refused write changed the output");
+    expect_answer(bits == 32 ? alp_write32(NULL, 0, 10, NULL, 0, page, 8) : alp_write64(NULL, 0, 10, NULL, 0, page, 8),
                   STRAHNUK_DONE, 0, 8, &none, "write");
     expect(memcmp(page, header, sizeof header) == 0, &none, "the page is not the header alone");
     expect(untouched_bytes(page + 8, page + ROOM), &none, "a byte past the page was changed");
@@ -379,12 +403,13 @@ int main(void)
 {
     static const recording floats = {"floats", 64, 3, 1, {2, 0}, 0, {0}, 0, {0}};
     uint8_t page[ROOM];
-    size_t i, room;
+    size_t i;
     for (i = 0; i < COUNT(recordings); i++) {
-        room = tell_written(&recordings[i], page);
+        tell_written(&recordings[i], page);
+        tell_rooms(&recordings[i], page);
         tell_read(&recordings[i], page);
         tell_vectors(&recordings[i], page);
-        tell_refused(&recordings[i], page, room);
+        tell_refused(&recordings[i], page);
     }
     tell_empty(32);
     tell_empty(64);

@@ -61,6 +61,14 @@ fn refused(row: Row) -> Outcome {
     Err(Refusal { row, vector: 0, place: 0 })
 }
 
+impl<B> Kind<B> {
+    /// Document 01's bound: no page of so many values and vectors is longer.
+    fn upper_limit(&self, recording: &Recording<B>) -> usize {
+        let (vectors, values) = (recording.pairs.len(), recording.values.len());
+        8 + vectors * (4 + self.metadata) + values * (2 * self.bits / 8 + 2)
+    }
+}
+
 impl<B: Copy + PartialEq + Debug> Kind<B> {
     /// Reads the page, or that vector alone.
     fn read(&self, page: &[u8], number: Option<usize>, out: &mut [B]) -> Outcome {
@@ -122,24 +130,20 @@ impl Teller {
     }
 
     fn tell<B: Copy + PartialEq + Debug>(&mut self, kind: &Kind<B>, recording: &Recording<B>) {
-        let (page, room) = self.tell_written(kind, recording);
+        let page = self.tell_written(kind, recording);
+        self.tell_rooms(kind, recording, &page);
         self.tell_read(kind, recording, &page);
         self.tell_vectors(kind, recording, &page);
-        self.tell_refused(kind, recording, &page, room);
+        self.tell_refused(kind, recording, &page);
     }
 
-    fn tell_written<B: Copy>(
-        &mut self,
-        kind: &Kind<B>,
-        recording: &Recording<B>,
-    ) -> (Vec<u8>, usize) {
+    fn tell_written<B: Copy>(&mut self, kind: &Kind<B>, recording: &Recording<B>) -> Vec<u8> {
         let Recording { name, s, ref pairs, ref values, page } = *recording;
-        // Document 01's bound.
-        let room = 8 + pairs.len() * (4 + kind.metadata) + values.len() * (2 * kind.bits / 8 + 2);
-        assert_eq!((kind.measure)(values, s, pairs), Ok(room), "{}: measure", name);
-
+        let limit = kind.upper_limit(recording);
         let mut out = vec![UNTOUCHED; ROOM];
         let length = (kind.write_into)(values, s, pairs, &mut out).expect(name);
+        assert_eq!((kind.measure)(values, s, pairs), Ok(length), "{}: measure", name);
+        assert!(length <= limit, "{}: the page is longer than any may be", name);
         assert_eq!(hexadecimal(&out[..length]), page, "{}: write", name);
         assert!(
             out[length..].iter().all(|&byte| byte == UNTOUCHED),
@@ -147,15 +151,47 @@ impl Teller {
             name
         );
         let line = format!(
-            "count {}, room {}, page {}: {}",
+            "count {}, page {} as measured, at most {}: {}",
             values.len(),
-            room,
             length,
+            limit,
             hexadecimal(&out[..length])
         );
         self.show(name, kind.bits, &line);
         out.truncate(length);
-        (out, room)
+        out
+    }
+
+    /// Every length is lent, from nothing to more than the upper limit: the page's own alone decides.
+    fn tell_rooms<B: Copy>(&mut self, kind: &Kind<B>, recording: &Recording<B>, page: &[u8]) {
+        let Recording { name, s, ref pairs, ref values, .. } = *recording;
+        assert!(
+            kind.upper_limit(recording) < ROOM,
+            "{}: the rooms end below the upper limit",
+            name
+        );
+        for length in 0..=ROOM {
+            let mut out = vec![UNTOUCHED; length];
+            let written = (kind.write_into)(values, s, pairs, &mut out);
+            if length < page.len() {
+                assert_eq!(written, refused(Row::OutputTooShort), "{}: write", name);
+                assert_eq!(out, vec![UNTOUCHED; length], "{}: a refused write", name);
+            } else {
+                assert_eq!(written, Ok(page.len()), "{}: write", name);
+                let rest = vec![UNTOUCHED; length - page.len()];
+                assert_eq!(out, [page, &rest].concat(), "{}: the page in other room", name);
+            }
+        }
+        self.show(
+            name,
+            kind.bits,
+            "15, the lent output is too short, by one byte and by more; the output stays",
+        );
+        self.show(
+            name,
+            kind.bits,
+            "the page's own length is room enough, and so is every longer one",
+        );
     }
 
     fn tell_read<B: Copy + PartialEq + Debug>(
@@ -233,25 +269,13 @@ impl Teller {
         kind: &Kind<B>,
         recording: &Recording<B>,
         page: &[u8],
-        room: usize,
     ) {
-        let Recording { name, s, ref pairs, ref values, .. } = *recording;
-        let mut out = vec![UNTOUCHED; room];
-        let short = (kind.write_into)(values, s, pairs, &mut out[..room - 1]);
-        assert_eq!(short, refused(Row::OutputTooShort), "{}: write with room one byte short", name);
-        assert_eq!(out, vec![UNTOUCHED; room], "{}: a refused write changed the output", name);
-        assert_eq!(
-            (kind.write_into)(values, s, pairs, &mut out),
-            Ok(page.len()),
-            "{}: write with the room measured",
-            name
-        );
-
+        let Recording { name, ref values, .. } = *recording;
         kind.expect_unread(page, None, values.len() - 1, refused(Row::OutputTooShort), name);
         self.show(
             name,
             kind.bits,
-            "15, the lent output is too short, by one byte or one value; the output stays",
+            "15, the lent output is too short, by one value; the output stays",
         );
 
         let longer = [page, &[0]].concat();
@@ -273,7 +297,9 @@ impl Teller {
         let mut page = vec![UNTOUCHED; ROOM];
         assert_eq!((kind.measure)(&[], 10, &[]), Ok(8));
         assert_eq!((kind.write_into)(&[], 10, &[], &mut []), refused(Row::OutputTooShort));
-        assert_eq!((kind.write_into)(&[], 10, &[], &mut page), Ok(8));
+        assert_eq!((kind.write_into)(&[], 10, &[], &mut page[..7]), refused(Row::OutputTooShort));
+        assert_eq!(page, vec![UNTOUCHED; ROOM], "a refused write changed the output");
+        assert_eq!((kind.write_into)(&[], 10, &[], &mut page[..8]), Ok(8));
         assert_eq!(hexadecimal(&page[..8]), "01 00 00 0A 00 00 00 00");
         assert!(
             page[8..].iter().all(|&byte| byte == UNTOUCHED),

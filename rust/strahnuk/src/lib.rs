@@ -38,7 +38,7 @@
 //! several threads at once.
 //!
 //! A refusal is an `Err`, and then everything lent is as it came. Should the archive ever answer a number that is not in the table of
-//! [`Row`], then this crate and the archive don't belong together, and the call panics with that number.
+//! [`Row`], or write a page of another length than it measured, then this crate and the archive don't belong together, and the call panics.
 #![deny(missing_docs, unsafe_code, unsafe_op_in_unsafe_fn)]
 
 #[cfg(not(all(target_arch = "x86_64", target_pointer_width = "64", unix)))]
@@ -116,7 +116,9 @@ macro_rules! kind {
         $measure:ident $write:ident $write_into:ident $read:ident $read_into:ident $read_vector:ident $read_vector_into:ident
         $examine:ident $write_floats:ident $read_floats:ident $read_vector_floats:ident
     ) => {
-        #[doc = concat!("The room in bytes that [`write_into", $n, "`] asks for: a bound, so the page may be shorter.")]
+        #[doc = concat!("The exact length in bytes of the page that [`write", $n, "`] gives: the least room for [`write_into", $n, "`].")]
+        ///
+        /// Every value is looked at, so it costs as much as the first of the passes that writing makes over the values.
         ///
         /// Rows in order: 5, 6, 16, then 9 and 10 vector by vector.
         ///
@@ -125,8 +127,8 @@ macro_rules! kind {
         /// # fn main() -> Result<(), strahnuk::Refusal> {
         #[doc = concat!("let column = [1.5_f", $n, ".to_bits(), 2.5_f", $n, ".to_bits()];")]
         /// let pairs = [Pair { exponent: 1, factor: 0 }];
-        #[doc = concat!("let room = measure", $n, "(&column, 10, &pairs)?;")]
-        #[doc = concat!("assert!(write", $n, "(&column, 10, &pairs)?.len() <= room);")]
+        #[doc = concat!("let length = measure", $n, "(&column, 10, &pairs)?;")]
+        #[doc = concat!("assert_eq!(write", $n, "(&column, 10, &pairs)?.len(), length);")]
         /// # Ok(())
         /// # }
         /// ```
@@ -155,24 +157,28 @@ macro_rules! kind {
         pub fn $write(values: &[$bits], s: u8, pairs: &[Pair]) -> Result<Vec<u8>, Refusal> {
             let mut page = vec![0; $measure(values, s, pairs)?];
             let length = $write_into(values, s, pairs, &mut page)?;
-            page.truncate(length);
-            // The room is a bound for the worst column; a page that is kept should not keep it all.
-            page.shrink_to_fit();
+            // An archive from before measuring was exact would leave zeros behind the page, which are no part of it.
+            assert_eq!(length, page.len(), "strahnuk: the archive measured another length: it is not of this crate's version");
             Ok(page)
         }
 
         #[doc = concat!("Writes the page of these bit patterns into `out`, as [`write", $n, "`] does, and gives its length.")]
         ///
-        #[doc = concat!("Rows in order: those of [`measure", $n, "`], then 15 if `out` is shorter than the room measured.")]
+        #[doc = concat!("Rows in order: those of [`measure", $n, "`], then 15 if `out` is shorter than the page. No byte is written before that is")]
+        /// known. No page is longer than 8 + vectors x (4 + metadata) + values x (2 x value size + 2) bytes, where metadata is 9 bytes
+        /// (32-bit) or 13 (64-bit): an `out` of that length needs no measuring.
         ///
         /// ```
-        #[doc = concat!("use strahnuk::{write_into", $n, ", Pair};")]
+        #[doc = concat!("use strahnuk::{write_into", $n, ", Pair, Row};")]
         /// # fn main() -> Result<(), strahnuk::Refusal> {
         #[doc = concat!("let column = [7.0_f", $n, ".to_bits(); 2];")]
         /// let mut out = [0xA5; 100];
         #[doc = concat!("let length = write_into", $n, "(&column, 10, &[Pair::default()], &mut out)?;")]
         /// assert_eq!(out[..8], [1, 0, 0, 10, 2, 0, 0, 0]);
         /// assert!(out[length..].iter().all(|&byte| byte == 0xA5));
+        ///
+        #[doc = concat!("let short = write_into", $n, "(&column, 10, &[Pair::default()], &mut out[..length - 1]);")]
+        /// assert_eq!(short.unwrap_err().row, Row::OutputTooShort);
         /// # Ok(())
         /// # }
         /// ```

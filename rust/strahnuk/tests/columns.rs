@@ -37,6 +37,7 @@ macro_rules! columns {
                     let vectors = (column.len() + (1 << s) - 1) >> s;
                     let pairs = vec![Pair { exponent: 1, factor: 0 }; vectors];
                     let page = $write(&column, s, &pairs).unwrap();
+                    assert_eq!($measure(&column, s, &pairs), Ok(page.len()));
                     assert_eq!($examine(&page), Ok(column.len()));
                     assert_eq!($read(&page).as_ref(), Ok(&column));
                 }
@@ -59,9 +60,9 @@ macro_rules! columns {
             fn room_too_short_leaves_the_output() {
                 let column = specials();
                 let pairs = [Pair { exponent: 1, factor: 0 }];
-                let room = $measure(&column, 10, &pairs).unwrap();
+                let needed = $measure(&column, 10, &pairs).unwrap();
                 let short = Refusal { row: Row::OutputTooShort, vector: 0, place: 0 };
-                for length in [0, 1, 8, room - 1] {
+                for length in [0, 1, 8, needed - 1] {
                     let mut out = vec![0xA5; length];
                     assert_eq!($write_into(&column, 10, &pairs, &mut out), Err(short));
                     assert_eq!(out, vec![0xA5; length]);
@@ -79,9 +80,11 @@ macro_rules! columns {
                 let column = specials();
                 let pairs = [Pair { exponent: 1, factor: 0 }];
                 let page = $write(&column, 10, &pairs).unwrap();
-                let room = $measure(&column, 10, &pairs).unwrap();
-                assert!(page.len() < room);
-                for length in [room, room + 100] {
+                // The upper limit of such pages: to the writer it is room like any other.
+                let word = $bits::BITS as usize / 8;
+                let limit = 8 + 4 + (5 + word) + column.len() * (2 * word + 2);
+                assert!(page.len() < limit);
+                for length in [page.len(), page.len() + 1, limit - 1, limit, limit + 100] {
                     let mut out = vec![0xA5; length];
                     assert_eq!($write_into(&column, 10, &pairs, &mut out), Ok(page.len()));
                     assert_eq!(out[..page.len()], page);

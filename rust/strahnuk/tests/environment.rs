@@ -76,15 +76,16 @@ macro_rules! environments {
                 let mut page = [0xA5; 200];
                 let mut values: [$bits; 8] = [0; 8];
                 let mut alone: [$bits; 8] = [0; 8];
-                let room = $measure(&column, 3, &pairs);
+                let measured = $measure(&column, 3, &pairs);
                 let length = $write_into(&column, 3, &pairs, &mut page);
                 let examined = $examine(&page[..length.unwrap_or(0)]);
                 let count = $read_into(&page[..length.unwrap_or(0)], &mut values);
                 let counted = $read_vector_into(&page[..length.unwrap_or(0)], 0, &mut alone);
-                (page, values, alone, room, length, examined, count, counted)
+                (page, values, alone, measured, length, examined, count, counted)
             };
             let plain = call();
             assert_eq!((plain.1, plain.2), (column, column));
+            assert_eq!(plain.3, plain.4);
             assert_eq!(plain.5, Ok(8));
             for environment in ENVIRONMENTS {
                 let (result, left) = under(environment, call);
