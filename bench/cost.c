@@ -1,8 +1,13 @@
 /*
- * One call on one page of 16,384 values, so that its instructions can be counted (bench/run): cost read|vector|examine 32|64 WIDTH.
+ * One call on one page of 16,384 values, so that its instructions can be counted (bench/run): cost CALL 32|64 WIDTH [EVERY].
  *
- * The page has 16 vectors of 1,024 whole numbers, each vector with fields of exactly WIDTH bits and no exceptions, which is checked; and what is
- * read back has to be the column, bit for bit: a count of a call that does something else would mean nothing.
+ *     read, vector, examine    read the page, or one vector of it, or examine it
+ *     measure                  how long the page is
+ *     write                    write it into what measuring gives
+ *
+ * The page has 16 vectors of 1,024 whole numbers, each vector with fields of exactly WIDTH bits. One value in EVERY is an exception, or none
+ * without EVERY or where it is 0. Both are checked; and what is read back has to be the column, bit for bit: a count of a call that does
+ * something else would mean nothing.
  */
 #include "strahnuk.h"
 
@@ -15,6 +20,7 @@ enum { VALUES = 16384, VECTOR = 1024, VECTORS = VALUES / VECTOR, ASKED = 7, HEAD
 static uint8_t page[MOST_BYTES];
 static uint32_t column32[VALUES], back32[VALUES];
 static uint64_t column64[VALUES], back64[VALUES];
+static const uint8_t pairs[2 * VECTORS] = {0}; /* exponent 0 and factor 0 for each vector */
 
 static void fail(const char *what)
 {
@@ -53,25 +59,38 @@ static int64_t whole(unsigned digits, unsigned width, size_t place)
     return (int64_t)(field - half + step);
 }
 
-static void make_column(unsigned kind, unsigned width)
+/* One value in `every` is an exception, but neither of a vector's first two, which give its fields their width. */
+static int is_exception(size_t place, unsigned every)
+{
+    return every != 0 && place % VECTOR % every == every - 1;
+}
+
+/* The exceptions are tenths: only their way back from a whole number shows what they are, as with most exceptions of real columns. */
+static void make_column(unsigned kind, unsigned width, unsigned every)
 {
     size_t i;
     for (i = 0; i < VALUES; i++) {
+        const int64_t number = whole(kind == 32 ? 24 : 53, width, i);
         if (kind == 32) {
-            float value = (float)whole(24, width, i);
+            const float value = is_exception(i, every) ? 0.1f : (float)number;
             memcpy(&column32[i], &value, sizeof value);
         } else {
-            double value = (double)whole(53, width, i);
+            const double value = is_exception(i, every) ? 0.1 : (double)number;
             memcpy(&column64[i], &value, sizeof value);
         }
     }
 }
 
-static size_t make_page(unsigned kind)
+static size_t measured(unsigned kind)
 {
-    static const uint8_t pairs[2 * VECTORS]; /* exponent 0 and factor 0 for each */
-    return kind == 32 ? done(alp_write32(column32, VALUES, 10, pairs, sizeof pairs, page, sizeof page), "write32")
-                      : done(alp_write64(column64, VALUES, 10, pairs, sizeof pairs, page, sizeof page), "write64");
+    return kind == 32 ? done(alp_measure32(column32, VALUES, 10, pairs, sizeof pairs), "measure32")
+                      : done(alp_measure64(column64, VALUES, 10, pairs, sizeof pairs), "measure64");
+}
+
+static size_t make_page(unsigned kind, size_t room)
+{
+    return kind == 32 ? done(alp_write32(column32, VALUES, 10, pairs, sizeof pairs, page, room), "write32")
+                      : done(alp_write64(column64, VALUES, 10, pairs, sizeof pairs, page, room), "write64");
 }
 
 static uint32_t number_at(const uint8_t *bytes)
@@ -80,12 +99,13 @@ static uint32_t number_at(const uint8_t *bytes)
 }
 
 /* A vector begins with exponent, factor, two bytes of how many exceptions, the frame and the width. */
-static void check_widths(unsigned kind, unsigned width)
+static void check_vectors(unsigned kind, unsigned width, unsigned every)
 {
+    const unsigned exceptions = every == 0 ? 0 : VECTOR / every;
     size_t v;
     for (v = 0; v < VECTORS; v++) {
         const uint8_t *vector = page + HEADER + number_at(page + HEADER + 4 * v);
-        if (vector[2] != 0 || vector[3] != 0) fail("the page has exceptions");
+        if (vector[2] + 256u * vector[3] != exceptions) fail("the page has more or fewer exceptions");
         if (vector[4 + kind / 8] != width) fail("the page has another width");
     }
 }
@@ -112,20 +132,34 @@ static void read_one_vector(unsigned kind, size_t length)
     }
 }
 
+static int is(const char *word, const char *other)
+{
+    return strcmp(word, other) == 0;
+}
+
+/* The call that is counted; a page that was written is read back instead, since writing it was the one call to count. */
+static void make_call(const char *call, unsigned kind, size_t length)
+{
+    if (is(call, "read") || is(call, "write")) read_page(kind, length);
+    else if (is(call, "vector")) read_one_vector(kind, length);
+    else if (is(call, "examine")) done(kind == 32 ? alp_examine32(page, length) : alp_examine64(page, length), "examine");
+    else if (!is(call, "measure")) fail("no such call");
+    else if (measured(kind) < length) fail("the page is longer than was measured"); /* an older archive measures a bound */
+}
+
 int main(int count, char **words)
 {
-    unsigned kind, width;
+    unsigned kind, width, every;
     size_t length;
-    if (count != 4) fail("cost read|vector|examine 32|64 WIDTH");
+    if (count != 4 && count != 5) fail("cost read|vector|examine|measure|write 32|64 WIDTH [EVERY]");
     kind = (unsigned)atoi(words[2]);
     width = (unsigned)atoi(words[3]);
+    every = count == 5 ? (unsigned)atoi(words[4]) : 0;
     if ((kind != 32 && kind != 64) || width > kind) fail("no such kind or width");
-    make_column(kind, width);
-    length = make_page(kind);
-    check_widths(kind, width);
-    if (strcmp(words[1], "read") == 0) read_page(kind, length);
-    else if (strcmp(words[1], "vector") == 0) read_one_vector(kind, length);
-    else if (strcmp(words[1], "examine") == 0) done(kind == 32 ? alp_examine32(page, length) : alp_examine64(page, length), "examine");
-    else fail("no such call");
+    if (every == 1 || every == 2) fail("a vector's first two values can't be exceptions");
+    make_column(kind, width, every);
+    length = make_page(kind, is(words[1], "write") ? measured(kind) : sizeof page);
+    check_vectors(kind, width, every);
+    make_call(words[1], kind, length);
     return 0;
 }
