@@ -1,13 +1,13 @@
 /*
- * One call on one page of 16,384 values, so that its instructions can be counted (bench/run): cost CALL 32|64 WIDTH [EVERY].
+ * One call on one page of 16,384 values, so that its instructions can be counted (bench/run): cost CALL 32|64 WIDTH EVERY S.
  *
  *     read, vector, examine    read the page, or one vector of it, or examine it
  *     measure                  how long the page is
  *     write                    write it into what measuring gives
  *
- * The page has 16 vectors of 1,024 whole numbers, each vector with fields of exactly WIDTH bits. One value in EVERY is an exception, or none
- * without EVERY or where it is 0. Both are checked; and what is read back has to be the column, bit for bit: a count of a call that does
- * something else would mean nothing.
+ * The page has vectors of 2^S whole numbers, each with fields of exactly WIDTH bits. One value in EVERY is an exception, none where EVERY is
+ * 0. All that is checked; and what is read back has to be the column, bit for bit: a count of a call that does something else would mean
+ * nothing.
  */
 #include "strahnuk.h"
 
@@ -15,12 +15,14 @@
 #include <stdlib.h>
 #include <string.h>
 
-enum { VALUES = 16384, VECTOR = 1024, VECTORS = VALUES / VECTOR, ASKED = 7, HEADER = 8, MOST_BYTES = 400000 };
+enum { VALUES = 16384, MOST_VECTORS = VALUES / 8, ASKED = 7, HEADER = 8, MOST_BYTES = 400000 };
 
 static uint8_t page[MOST_BYTES];
 static uint32_t column32[VALUES], back32[VALUES];
 static uint64_t column64[VALUES], back64[VALUES];
-static const uint8_t pairs[2 * VECTORS] = {0}; /* exponent 0 and factor 0 for each vector */
+static const uint8_t pairs[2 * MOST_VECTORS] = {0}; /* exponent 0 and factor 0 for each vector */
+static uint8_t s;
+static size_t vector, vectors; /* how many values one has, and how many there are */
 
 static void fail(const char *what)
 {
@@ -55,14 +57,14 @@ static int64_t whole(unsigned digits, unsigned width, size_t place)
     half = (uint64_t)1 << (width - 1);
     step = width <= digits ? 0 : (uint64_t)1 << (width - digits);
     most = 2 * half - (width <= digits ? 1 : 2 * step);
-    field = place % VECTOR == 0 ? 0 : place % VECTOR == 1 ? most : any() & most;
+    field = place % vector == 0 ? 0 : place % vector == 1 ? most : any() & most;
     return (int64_t)(field - half + step);
 }
 
 /* One value in `every` is an exception, but neither of a vector's first two, which give its fields their width. */
 static int is_exception(size_t place, unsigned every)
 {
-    return every != 0 && place % VECTOR % every == every - 1;
+    return every != 0 && place % vector % every == every - 1;
 }
 
 /* The exceptions are tenths: only their way back from a whole number shows what they are, as with most exceptions of real columns. */
@@ -83,14 +85,14 @@ static void make_column(unsigned kind, unsigned width, unsigned every)
 
 static size_t measured(unsigned kind)
 {
-    return kind == 32 ? done(alp_measure32(column32, VALUES, 10, pairs, sizeof pairs), "measure32")
-                      : done(alp_measure64(column64, VALUES, 10, pairs, sizeof pairs), "measure64");
+    return kind == 32 ? done(alp_measure32(column32, VALUES, s, pairs, 2 * vectors), "measure32")
+                      : done(alp_measure64(column64, VALUES, s, pairs, 2 * vectors), "measure64");
 }
 
 static size_t make_page(unsigned kind, size_t room)
 {
-    return kind == 32 ? done(alp_write32(column32, VALUES, 10, pairs, sizeof pairs, page, room), "write32")
-                      : done(alp_write64(column64, VALUES, 10, pairs, sizeof pairs, page, room), "write64");
+    return kind == 32 ? done(alp_write32(column32, VALUES, s, pairs, 2 * vectors, page, room), "write32")
+                      : done(alp_write64(column64, VALUES, s, pairs, 2 * vectors, page, room), "write64");
 }
 
 static uint32_t number_at(const uint8_t *bytes)
@@ -101,9 +103,9 @@ static uint32_t number_at(const uint8_t *bytes)
 /* A vector begins with exponent, factor, two bytes of how many exceptions, the frame and the width. */
 static void check_vectors(unsigned kind, unsigned width, unsigned every)
 {
-    const unsigned exceptions = every == 0 ? 0 : VECTOR / every;
+    const unsigned exceptions = every == 0 ? 0 : (unsigned)vector / every;
     size_t v;
-    for (v = 0; v < VECTORS; v++) {
+    for (v = 0; v < vectors; v++) {
         const uint8_t *vector = page + HEADER + number_at(page + HEADER + 4 * v);
         if (vector[2] + 256u * vector[3] != exceptions) fail("the page has more or fewer exceptions");
         if (vector[4 + kind / 8] != width) fail("the page has another width");
@@ -124,11 +126,11 @@ static void read_page(unsigned kind, size_t length)
 static void read_one_vector(unsigned kind, size_t length)
 {
     if (kind == 32) {
-        done(alp_read_vector32(page, length, ASKED, back32, VECTOR), "read_vector32");
-        if (memcmp(back32, column32 + ASKED * VECTOR, VECTOR * sizeof *column32) != 0) fail("the vector came back changed");
+        done(alp_read_vector32(page, length, ASKED, back32, vector), "read_vector32");
+        if (memcmp(back32, column32 + ASKED * vector, vector * sizeof *column32) != 0) fail("the vector came back changed");
     } else {
-        done(alp_read_vector64(page, length, ASKED, back64, VECTOR), "read_vector64");
-        if (memcmp(back64, column64 + ASKED * VECTOR, VECTOR * sizeof *column64) != 0) fail("the vector came back changed");
+        done(alp_read_vector64(page, length, ASKED, back64, vector), "read_vector64");
+        if (memcmp(back64, column64 + ASKED * vector, vector * sizeof *column64) != 0) fail("the vector came back changed");
     }
 }
 
@@ -147,16 +149,28 @@ static void make_call(const char *call, unsigned kind, size_t length)
     else if (measured(kind) < length) fail("the page is longer than was measured"); /* an older archive measures a bound */
 }
 
+/* A number among the words, from 0 to `most`. */
+static unsigned number(const char *word, unsigned most)
+{
+    const int n = atoi(word);
+    if (n < 0 || (unsigned)n > most) fail("a number is out of range");
+    return (unsigned)n;
+}
+
 int main(int count, char **words)
 {
     unsigned kind, width, every;
     size_t length;
-    if (count != 4 && count != 5) fail("cost read|vector|examine|measure|write 32|64 WIDTH [EVERY]");
-    kind = (unsigned)atoi(words[2]);
-    width = (unsigned)atoi(words[3]);
-    every = count == 5 ? (unsigned)atoi(words[4]) : 0;
-    if ((kind != 32 && kind != 64) || width > kind) fail("no such kind or width");
+    if (count != 6) fail("cost read|vector|examine|measure|write 32|64 WIDTH EVERY S");
+    kind = number(words[2], 64);
+    if (kind != 32 && kind != 64) fail("no such kind");
+    width = number(words[3], kind);
+    every = number(words[4], VALUES);
     if (every == 1 || every == 2) fail("a vector's first two values can't be exceptions");
+    s = (uint8_t)number(words[5], 10);
+    if (s < 3) fail("no such vector size");
+    vector = (size_t)1 << s;
+    vectors = VALUES / vector;
     make_column(kind, width, every);
     length = make_page(kind, is(words[1], "write") ? measured(kind) : sizeof page);
     check_vectors(kind, width, every);

@@ -95,7 +95,7 @@ room-passes room n h = rw (le-ltb room n h)
 
 -- ---- the calls
 
--- what is settled where none of those refuses
+-- what is settled where the settings pass
 pub settled : (fmt : Format) (s : ℕ) (pairs vs : List ℕ) → verdict (settingsRows fmt s pairs vs) ≡ fine → Settled fmt s pairs vs
 settled fmt s pairs vs ok = let i = settings-fine fmt s pairs vs ok in record { two-each = i .0; inside = i .1 }
 
@@ -103,7 +103,7 @@ module _ (fmt : Format) (s : ℕ) (pairs vs out : List ℕ) where
   abbrev page : List ℕ
   page = pageOf fmt s (pairsOf pairs) vs
 
-  -- 15 behind them, of a page of n bytes
+  -- 15, behind the settings' rows, of a page of n bytes
   abbrev short : ℕ → Verdict
   short n = verdict (row 15 the-page (length out below n))
 
@@ -121,7 +121,7 @@ module _ (fmt : Format) (s : ℕ) (pairs vs out : List ℕ) where
   pub refused-settings : (a : Answer) → asVerdict (No a) ≡ verdict (settingsRows fmt s pairs vs) → Written fmt vs s pairs out a out
   refused-settings a e = refused a (ap (λ (v : Verdict). first v (short (length page))) e ∙ sym write-rows)
 
-  -- those pass, and n was measured
+  -- the settings pass, and n was measured
   module _ (ok : verdict (settingsRows fmt s pairs vs) ≡ fine) (n : ℕ) (en : n ≡ pageSize fmt s pairs vs) where
     behind : verdict (writeRows fmt s pairs vs (length out)) ≡ short n
     behind = write-rows ∙ ap (λ (v : Verdict). first v (short (length page))) ok ∙ ap short (sym en)
