@@ -11,8 +11,6 @@ use encode::records::keep32;
 use encode::records::keep64;
 use encode::records::no_records32;
 use encode::records::no_records64;
-use encode::scan::Seen32;
-use encode::scan::Seen64;
 use encode::scan::scan32;
 use encode::scan::scan64;
 use encode::scan::vector_size32;
@@ -20,13 +18,9 @@ use encode::scan::vector_size64;
 use rules::Exponent;
 use rules::Factor;
 ghost use mathlib.Core.Path.{_≡_};
-ghost use lib.ListN.{length};
 ghost use lib.Ieee.{binary32, binary64};
-ghost use Rattle.rules.specs.Vector.{tries};
-ghost use Rattle.rules.specs.Write.{pageSize, Allowed};
-ghost use Rattle.decimal.specs.Scale.{pairOf};
-ghost use Rattle.encode.specs.Vectors.{Short};
-ghost use Rattle.encode.specs.Seen.{asSeen32, asSeen64, seenOf};
+ghost use Rattle.rules.specs.Write.{pageSize};
+ghost use Rattle.encode.specs.Seen.{asSeen32, asSeen64};
 ghost use Rattle.writer.specs.Settled.{Settled};
 ghost use Rattle.writer.specs.Recorded.{Recorded};
 
@@ -39,20 +33,6 @@ pub struct Found64 {
 pub struct Found32 {
     pub size: usize,
     pub records: Records32,
-}
-
-fn scan_with64(values: &[u64], exponent: Exponent, factor: Factor) -> Seen64
-    requires { ⌜ Allowed binary64 (pairOf exponent factor) × Short (length (now values)) ⌝ }
-    ensures { λ r. ⌜ asSeen64 r ≡ seenOf (tries binary64 (pairOf exponent factor) (now (values .entry))) ⌝ }
-{
-    scan64(values, scale_of64(exponent, factor))
-}
-
-fn scan_with32(values: &[u32], exponent: Exponent, factor: Factor) -> Seen32
-    requires { ⌜ Allowed binary32 (pairOf exponent factor) × Short (length (now values)) ⌝ }
-    ensures { λ r. ⌜ asSeen32 r ≡ seenOf (tries binary32 (pairOf exponent factor) (now (values .entry))) ⌝ }
-{
-    scan32(values, scale_of32(exponent, factor))
 }
 
 // Header, offsets and vectors.
@@ -71,11 +51,8 @@ pub fn measure_page64(values: &[u64], s: u8, pairs: &[u8]) -> Found64
     while i < count {
         let end = start + least(size, n - start);
         let j = 2 * i;
-        let seen = scan_with64(
-            &values[start..end],
-            Exponent(pairs[j]),
-            Factor(pairs[j + 1]),
-        );
+        let scale = scale_of64(Exponent(pairs[j]), Factor(pairs[j + 1]));
+        let seen = scan64(&values[start..end], scale);
         total += vector_size64(seen);
         records = keep64(records, i, seen);
         start = end;
@@ -102,11 +79,8 @@ pub fn measure_page32(values: &[u32], s: u8, pairs: &[u8]) -> Found32
     while i < count {
         let end = start + least(size, n - start);
         let j = 2 * i;
-        let seen = scan_with32(
-            &values[start..end],
-            Exponent(pairs[j]),
-            Factor(pairs[j + 1]),
-        );
+        let scale = scale_of32(Exponent(pairs[j]), Factor(pairs[j + 1]));
+        let seen = scan32(&values[start..end], scale);
         total += vector_size32(seen);
         records = keep32(records, i, seen);
         start = end;

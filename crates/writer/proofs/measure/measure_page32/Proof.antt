@@ -1,19 +1,22 @@
 -- `measure::measure_page32` meets its contract. Assumes nothing.
 use borrow.Author.Needs.{needs}
-use mathlib.Core.Path.{_≡_, refl, sym, ap, _∙_, subst}
+use mathlib.Core.Path.{_≡_, sym, ap, _∙_, subst}
 use mathlib.Core.List.{List}
-use Prim.Native.Nat.{ℕ, _+_, _-_, _*_, _^_}
+use Prim.Native.Nat.{ℕ, _+_, _-_, _^_}
 use native.Mathlib.Omega.{arith}
 use lib.ListN.{length}
 use lib.Ieee.{binary32}
 use denote.Ref.{now}
 use Rattle.digits.proofs.Lists.{below-each}
 use Rattle.rules.specs.Kind.{Values}
+use Rattle.rules.specs.Decimal.{Pair}
 use Rattle.rules.specs.Page.{vectors}
+use Rattle.decimal.specs.Scale.{pair32}
+use Rattle.encode.specs.Vectors.{bytesOf}
 use Rattle.encode.specs.Seen.{asSeen32}
 use Rattle.encode.proofs.Whole.{kept-is, vector-long}
 use Rattle.writer.specs.Settled.{Settled}
-use Rattle.writer.specs.Recorded.{pairAt, RecordedTo}
+use Rattle.writer.specs.Recorded.{RecordedTo}
 use Rattle.writer.proofs.Rows.{count-is}
 use Rattle.writer.proofs.Vectors.{chunk, pair-allowed, chunk-short}
 use Rattle.writer.proofs.Sizes.{Measuring, measuring-start, total-small, measuring-next, measuring-end}
@@ -26,10 +29,11 @@ use Rattle.checks.proofs.sizes.least.Reads as least-reads
 use Rattle.checks.proofs.sizes.size_of.Reads as size-of-reads
 use Rattle.checks.proofs.sizes.vectors_of.Reads as vectors-of-reads
 use Rattle.checks.proofs.sizes.wide.Reads as wide-reads
+use Rattle.decimal.proofs.tables.scale_of32.Reads as scale-of32-reads
 use Rattle.encode.proofs.records.keep32.Reads as keep32-reads
 use Rattle.encode.proofs.records.no_records32.Reads as no-records32-reads
+use Rattle.encode.proofs.scan.scan32.Reads as scan32-reads
 use Rattle.encode.proofs.scan.vector_size32.Reads as vector-size32-reads
-use Rattle.writer.proofs.measure.scan_with32.Reads as scan-with32-reads
 
 abbrev Inv-loop : tie.InvT-loop
 Inv-loop values s pairs n size count total₀ records₀ start₀ i₀ total records start i = Measuring binary32 s size count pairs values i start total × RecordedTo binary32 size pairs values asSeen32 i (records .of)
@@ -99,57 +103,63 @@ add-end c = search needs
 mul-j : tie.Need-mul-j Inv-loop μ-loop
 mul-j c = search needs
 
-mul-scan-with32 : tie.Need-mul-scan-with32 Inv-loop μ-loop
-mul-scan-with32 c = search needs
+shared-slice-read-t20 : tie.Need-shared-slice-read-t20 Inv-loop μ-loop
+shared-slice-read-t20 c = let h = c .before .before .before .before .before in omega (arith, c .before .before .loop-test .taken, settled h .two-each, many-is h)
 
-sub-scan-with32 : tie.Need-sub-scan-with32 Inv-loop μ-loop
-sub-scan-with32 c = search needs
+add-t17 : tie.Need-add-t17 Inv-loop μ-loop
+add-t17 c = search needs
 
-part-scan-with32-start : tie.Need-part-scan-with32-start Inv-loop μ-loop
-part-scan-with32-start c = search needs
+shared-slice-read-t23 : tie.Need-shared-slice-read-t23 Inv-loop μ-loop
+shared-slice-read-t23 c = let h = c .before .before .before .before .before .before in omega (arith, c .before .before .before .loop-test .taken, settled h .two-each, many-is h)
 
-part-scan-with32-end : tie.Need-part-scan-with32-end Inv-loop μ-loop
-part-scan-with32-end c = omega (arith, c .least .ensures, c .before .before .loop .inv .0 .cut .within)
+scale-of32-requires : tie.Need-scale-of32-requires Inv-loop μ-loop
+scale-of32-requires c κs =
+    let h = c .before .before .before .before .before .before in
+    let l = c .before .before .before .before .loop in
+    let N = c .before .before .least in
+    pair-allowed binary32 (S h) (Size h) (Count h) (Ps h) (Vs h) (settled h) (size-is h) (many-is h) (l .i) (l .start) (l .inv .0 .cut) (c .before .before .before .loop-test .taken) (N .result) (N .ensures) .0
 
-shared-slice-read-t22 : tie.Need-shared-slice-read-t22 Inv-loop μ-loop
-shared-slice-read-t22 c = let h = c .before .before .before .before .before .before in omega (arith, c .before .before .before .loop-test .taken, settled h .two-each, many-is h)
+mul-scan32 : tie.Need-mul-scan32 Inv-loop μ-loop
+mul-scan32 c = omega (arith, c .before .before .before .before .before .loop .inv .0 .cut .within, settled (c .before .before .before .before .before .before .before) .inside .many)
 
-add-t24 : tie.Need-add-t24 Inv-loop μ-loop
-add-t24 c = search needs
+sub-scan32 : tie.Need-sub-scan32 Inv-loop μ-loop
+sub-scan32 c = search needs
 
-shared-slice-read-t26 : tie.Need-shared-slice-read-t26 Inv-loop μ-loop
-shared-slice-read-t26 c = let h = c .before .before .before .before .before .before .before in omega (arith, c .before .before .before .before .loop-test .taken, settled h .two-each, many-is h)
+part-scan32-start : tie.Need-part-scan32-start Inv-loop μ-loop
+part-scan32-start c = search needs
 
-scan-with32-requires : tie.Need-scan-with32-requires Inv-loop μ-loop
-scan-with32-requires c κs =
-    let h = c .before .before .before .before .before .before .before in
-    let l = c .before .before .before .before .before .loop in
-    let t = c .before .before .before .before .loop-test .taken in
-    let N = c .before .before .before .least in (
-      pair-allowed binary32 (S h) (Size h) (Count h) (Ps h) (Vs h) (settled h) (size-is h) (many-is h) (l .i) (l .start) (l .inv .0 .cut) t (N .result) (N .ensures) .0,
-      chunk-short binary32 (S h) (Size h) (Count h) (Ps h) (Vs h) (settled h) (size-is h) (many-is h) (l .i) (l .start) (l .inv .0 .cut) t (N .result) (N .ensures),
-    )
+part-scan32-end : tie.Need-part-scan32-end Inv-loop μ-loop
+part-scan32-end c = omega (arith, c .before .before .before .least .ensures, c .before .before .before .before .before .loop .inv .0 .cut .within)
 
-vector-size32-requires : tie.Need-vector-size32-requires Inv-loop μ-loop
-vector-size32-requires c κs =
+scan32-requires : tie.Need-scan32-requires Inv-loop μ-loop
+scan32-requires c κs =
     let h = c .before .before .before .before .before .before .before .before in
     let l = c .before .before .before .before .before .before .loop in
     let N = c .before .before .before .before .least in
-    kept-is binary32 (pairAt (Ps h) (2 * l .i)) (chunk (Vs h) (l .start) (N .result)) (asSeen32 (c .scan-with32 .result)) (c .scan-with32 .ensures)
-    (chunk-short binary32 (S h) (Size h) (Count h) (Ps h) (Vs h) (settled h) (size-is h) (many-is h) (l .i) (l .start) (l .inv .0 .cut) (c .before .before .before .before .before .loop-test .taken) (N .result) (N .ensures))
+    (c .before .scale-of32 .ensures .1, chunk-short binary32 (S h) (Size h) (Count h) (Ps h) (Vs h) (settled h) (size-is h) (many-is h) (l .i) (l .start) (l .inv .0 .cut) (c .before .before .before .before .before .loop-test .taken) (N .result) (N .ensures))
+
+vector-size32-requires : tie.Need-vector-size32-requires Inv-loop μ-loop
+vector-size32-requires c κs =
+    let h = c .before .before .before .before .before .before .before .before .before in
+    let l = c .before .before .before .before .before .before .before .loop in
+    let N = c .before .before .before .before .before .least in
+    kept-is binary32 (pair32 (c .before .before .scale-of32 .result)) (chunk (Vs h) (l .start) (N .result)) (asSeen32 (c .scan32 .result)) (c .scan32 .ensures)
+    (chunk-short binary32 (S h) (Size h) (Count h) (Ps h) (Vs h) (settled h) (size-is h) (many-is h) (l .i) (l .start) (l .inv .0 .cut) (c .before .before .before .before .before .before .loop-test .taken) (N .result) (N .ensures))
 
 -- where the next turn begins
 abbrev H : tie.After-vector-size32 Inv-loop μ-loop → tie.After-vectors-of Inv-loop μ-loop
-H c = c .before .before .before .before .before .before .before .before .before
+H c = c .before .before .before .before .before .before .before .before .before .before
 
-next : (c : tie.After-vector-size32 Inv-loop μ-loop) → Measuring binary32 (S (H c)) (Size (H c)) (Count (H c)) (Ps (H c)) (Vs (H c)) (c .before .before .before .before .before .before .before .loop .i + 1) (c .before .before .before .before .before .before .before .loop .start + c .before .before .before .before .before .least .result) (c .before .before .before .before .before .before .before .loop .total + c .vector-size32 .result)
+next : (c : tie.After-vector-size32 Inv-loop μ-loop) → Measuring binary32 (S (H c)) (Size (H c)) (Count (H c)) (Ps (H c)) (Vs (H c)) (c .before .before .before .before .before .before .before .before .loop .i + 1) (c .before .before .before .before .before .before .before .before .loop .start + c .before .before .before .before .before .before .least .result) (c .before .before .before .before .before .before .before .before .loop .total + c .vector-size32 .result)
 next c =
     let h = H c in
-    let l = c .before .before .before .before .before .before .before .loop in
-    let N = c .before .before .before .before .before .least in
-    let seen = c .before .scan-with32 in
-    measuring-next binary32 (S h) (Size h) (Count h) (Ps h) (Vs h) (settled h) (size-is h) (many-is h) (l .i) (l .start) (l .total) (l .inv .0) (c .before .before .before .before .before .before .loop-test .taken) (N .result) (N .ensures) (c .vector-size32 .result)
-    (c .vector-size32 .ensures ∙ vector-long binary32 (pairAt (Ps h) (2 * l .i)) (chunk (Vs h) (l .start) (N .result)) (asSeen32 (seen .result)) (seen .ensures))
+    let l = c .before .before .before .before .before .before .before .before .loop in
+    let N = c .before .before .before .before .before .before .least in
+    let k = c .before .before .before .scale-of32 in
+    let seen = c .before .scan32 in
+    let part = chunk (Vs h) (l .start) (N .result) in
+    measuring-next binary32 (S h) (Size h) (Count h) (Ps h) (Vs h) (settled h) (size-is h) (many-is h) (l .i) (l .start) (l .total) (l .inv .0) (c .before .before .before .before .before .before .before .loop-test .taken) (N .result) (N .ensures) (c .vector-size32 .result)
+    (c .vector-size32 .ensures ∙ vector-long binary32 (pair32 (k .result)) part (asSeen32 (seen .result)) (seen .ensures) ∙ ap (λ (p : Pair). length (bytesOf binary32 p part)) (k .ensures .0))
 
 add-total-2 : tie.Need-add-total-2 Inv-loop μ-loop
 add-total-2 c = let h = H c in omega (arith, total-small binary32 (S h) (Size h) (Count h) (Ps h) (Vs h) (settled h) (size-is h) (many-is h) _ _ _ (next c) (values-of h))
@@ -166,10 +176,11 @@ loop-less c = search needs
 loop-again : tie.Need-loop-again Inv-loop μ-loop
 loop-again c =
     let h = H (c .before) in
-    let l = c .before .before .before .before .before .before .before .before .loop in
-    let N = c .before .before .before .before .before .before .least in
-    let seen = c .before .before .scan-with32 in
-    let same = seen .ensures ∙ record-is binary32 (S h) (Size h) (Count h) (Ps h) (Vs h) (settled h) (size-is h) (many-is h) (l .i) (l .start) (l .inv .0 .cut) (c .before .before .before .before .before .before .before .loop-test .taken) (N .result) (N .ensures) (pairAt (Ps h) (2 * l .i)) refl in
+    let l = c .before .before .before .before .before .before .before .before .before .loop in
+    let N = c .before .before .before .before .before .before .before .least in
+    let k = c .before .before .before .before .scale-of32 in
+    let seen = c .before .before .scan32 in
+    let same = seen .ensures ∙ record-is binary32 (S h) (Size h) (Count h) (Ps h) (Vs h) (settled h) (size-is h) (many-is h) (l .i) (l .start) (l .inv .0 .cut) (c .before .before .before .before .before .before .before .before .loop-test .taken) (N .result) (N .ensures) (pair32 (k .result)) (k .ensures .0) in
     let kept = recorded-more binary32 (Size h) (Ps h) (Vs h) asSeen32 (l .i) (l .records .of) (seen .result) (l .inv .1) same in
     (next (c .before), subst (RecordedTo binary32 (Size h) (Ps h) (Vs h) asSeen32 (l .i + 1)) (sym (c .keep32 .ensures)) kept)
 
@@ -199,14 +210,15 @@ measure-page32-spec =
     least-requires
     add-end
     mul-j
-    mul-scan-with32
-    sub-scan-with32
-    part-scan-with32-start
-    part-scan-with32-end
-    shared-slice-read-t22
-    add-t24
-    shared-slice-read-t26
-    scan-with32-requires
+    shared-slice-read-t20
+    add-t17
+    shared-slice-read-t23
+    scale-of32-requires
+    mul-scan32
+    sub-scan32
+    part-scan32-start
+    part-scan32-end
+    scan32-requires
     vector-size32-requires
     add-total-2
     keep32-requires

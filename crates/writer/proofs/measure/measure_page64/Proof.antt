@@ -1,19 +1,22 @@
 -- `measure::measure_page64` meets its contract. Assumes nothing.
 use borrow.Author.Needs.{needs}
-use mathlib.Core.Path.{_≡_, refl, sym, ap, _∙_, subst}
+use mathlib.Core.Path.{_≡_, sym, ap, _∙_, subst}
 use mathlib.Core.List.{List}
-use Prim.Native.Nat.{ℕ, _+_, _-_, _*_, _^_}
+use Prim.Native.Nat.{ℕ, _+_, _-_, _^_}
 use native.Mathlib.Omega.{arith}
 use lib.ListN.{length}
 use lib.Ieee.{binary64}
 use denote.Ref.{now}
 use Rattle.digits.proofs.Lists.{below-each}
 use Rattle.rules.specs.Kind.{Values}
+use Rattle.rules.specs.Decimal.{Pair}
 use Rattle.rules.specs.Page.{vectors}
+use Rattle.decimal.specs.Scale.{pair64}
+use Rattle.encode.specs.Vectors.{bytesOf}
 use Rattle.encode.specs.Seen.{asSeen64}
 use Rattle.encode.proofs.Whole.{kept-is, vector-long}
 use Rattle.writer.specs.Settled.{Settled}
-use Rattle.writer.specs.Recorded.{pairAt, RecordedTo}
+use Rattle.writer.specs.Recorded.{RecordedTo}
 use Rattle.writer.proofs.Rows.{count-is}
 use Rattle.writer.proofs.Vectors.{chunk, pair-allowed, chunk-short}
 use Rattle.writer.proofs.Sizes.{Measuring, measuring-start, total-small, measuring-next, measuring-end}
@@ -26,10 +29,11 @@ use Rattle.checks.proofs.sizes.least.Reads as least-reads
 use Rattle.checks.proofs.sizes.size_of.Reads as size-of-reads
 use Rattle.checks.proofs.sizes.vectors_of.Reads as vectors-of-reads
 use Rattle.checks.proofs.sizes.wide.Reads as wide-reads
+use Rattle.decimal.proofs.tables.scale_of64.Reads as scale-of64-reads
 use Rattle.encode.proofs.records.keep64.Reads as keep64-reads
 use Rattle.encode.proofs.records.no_records64.Reads as no-records64-reads
+use Rattle.encode.proofs.scan.scan64.Reads as scan64-reads
 use Rattle.encode.proofs.scan.vector_size64.Reads as vector-size64-reads
-use Rattle.writer.proofs.measure.scan_with64.Reads as scan-with64-reads
 
 abbrev Inv-loop : tie.InvT-loop
 Inv-loop values s pairs n size count total₀ records₀ start₀ i₀ total records start i = Measuring binary64 s size count pairs values i start total × RecordedTo binary64 size pairs values asSeen64 i (records .of)
@@ -99,57 +103,63 @@ add-end c = search needs
 mul-j : tie.Need-mul-j Inv-loop μ-loop
 mul-j c = search needs
 
-mul-scan-with64 : tie.Need-mul-scan-with64 Inv-loop μ-loop
-mul-scan-with64 c = search needs
+shared-slice-read-t20 : tie.Need-shared-slice-read-t20 Inv-loop μ-loop
+shared-slice-read-t20 c = let h = c .before .before .before .before .before in omega (arith, c .before .before .loop-test .taken, settled h .two-each, many-is h)
 
-sub-scan-with64 : tie.Need-sub-scan-with64 Inv-loop μ-loop
-sub-scan-with64 c = search needs
+add-t17 : tie.Need-add-t17 Inv-loop μ-loop
+add-t17 c = search needs
 
-part-scan-with64-start : tie.Need-part-scan-with64-start Inv-loop μ-loop
-part-scan-with64-start c = search needs
+shared-slice-read-t23 : tie.Need-shared-slice-read-t23 Inv-loop μ-loop
+shared-slice-read-t23 c = let h = c .before .before .before .before .before .before in omega (arith, c .before .before .before .loop-test .taken, settled h .two-each, many-is h)
 
-part-scan-with64-end : tie.Need-part-scan-with64-end Inv-loop μ-loop
-part-scan-with64-end c = omega (arith, c .least .ensures, c .before .before .loop .inv .0 .cut .within)
+scale-of64-requires : tie.Need-scale-of64-requires Inv-loop μ-loop
+scale-of64-requires c κs =
+    let h = c .before .before .before .before .before .before in
+    let l = c .before .before .before .before .loop in
+    let N = c .before .before .least in
+    pair-allowed binary64 (S h) (Size h) (Count h) (Ps h) (Vs h) (settled h) (size-is h) (many-is h) (l .i) (l .start) (l .inv .0 .cut) (c .before .before .before .loop-test .taken) (N .result) (N .ensures) .0
 
-shared-slice-read-t22 : tie.Need-shared-slice-read-t22 Inv-loop μ-loop
-shared-slice-read-t22 c = let h = c .before .before .before .before .before .before in omega (arith, c .before .before .before .loop-test .taken, settled h .two-each, many-is h)
+mul-scan64 : tie.Need-mul-scan64 Inv-loop μ-loop
+mul-scan64 c = omega (arith, c .before .before .before .before .before .loop .inv .0 .cut .within, settled (c .before .before .before .before .before .before .before) .inside .many)
 
-add-t24 : tie.Need-add-t24 Inv-loop μ-loop
-add-t24 c = search needs
+sub-scan64 : tie.Need-sub-scan64 Inv-loop μ-loop
+sub-scan64 c = search needs
 
-shared-slice-read-t26 : tie.Need-shared-slice-read-t26 Inv-loop μ-loop
-shared-slice-read-t26 c = let h = c .before .before .before .before .before .before .before in omega (arith, c .before .before .before .before .loop-test .taken, settled h .two-each, many-is h)
+part-scan64-start : tie.Need-part-scan64-start Inv-loop μ-loop
+part-scan64-start c = search needs
 
-scan-with64-requires : tie.Need-scan-with64-requires Inv-loop μ-loop
-scan-with64-requires c κs =
-    let h = c .before .before .before .before .before .before .before in
-    let l = c .before .before .before .before .before .loop in
-    let t = c .before .before .before .before .loop-test .taken in
-    let N = c .before .before .before .least in (
-      pair-allowed binary64 (S h) (Size h) (Count h) (Ps h) (Vs h) (settled h) (size-is h) (many-is h) (l .i) (l .start) (l .inv .0 .cut) t (N .result) (N .ensures) .0,
-      chunk-short binary64 (S h) (Size h) (Count h) (Ps h) (Vs h) (settled h) (size-is h) (many-is h) (l .i) (l .start) (l .inv .0 .cut) t (N .result) (N .ensures),
-    )
+part-scan64-end : tie.Need-part-scan64-end Inv-loop μ-loop
+part-scan64-end c = omega (arith, c .before .before .before .least .ensures, c .before .before .before .before .before .loop .inv .0 .cut .within)
 
-vector-size64-requires : tie.Need-vector-size64-requires Inv-loop μ-loop
-vector-size64-requires c κs =
+scan64-requires : tie.Need-scan64-requires Inv-loop μ-loop
+scan64-requires c κs =
     let h = c .before .before .before .before .before .before .before .before in
     let l = c .before .before .before .before .before .before .loop in
     let N = c .before .before .before .before .least in
-    kept-is binary64 (pairAt (Ps h) (2 * l .i)) (chunk (Vs h) (l .start) (N .result)) (asSeen64 (c .scan-with64 .result)) (c .scan-with64 .ensures)
-    (chunk-short binary64 (S h) (Size h) (Count h) (Ps h) (Vs h) (settled h) (size-is h) (many-is h) (l .i) (l .start) (l .inv .0 .cut) (c .before .before .before .before .before .loop-test .taken) (N .result) (N .ensures))
+    (c .before .scale-of64 .ensures .1, chunk-short binary64 (S h) (Size h) (Count h) (Ps h) (Vs h) (settled h) (size-is h) (many-is h) (l .i) (l .start) (l .inv .0 .cut) (c .before .before .before .before .before .loop-test .taken) (N .result) (N .ensures))
+
+vector-size64-requires : tie.Need-vector-size64-requires Inv-loop μ-loop
+vector-size64-requires c κs =
+    let h = c .before .before .before .before .before .before .before .before .before in
+    let l = c .before .before .before .before .before .before .before .loop in
+    let N = c .before .before .before .before .before .least in
+    kept-is binary64 (pair64 (c .before .before .scale-of64 .result)) (chunk (Vs h) (l .start) (N .result)) (asSeen64 (c .scan64 .result)) (c .scan64 .ensures)
+    (chunk-short binary64 (S h) (Size h) (Count h) (Ps h) (Vs h) (settled h) (size-is h) (many-is h) (l .i) (l .start) (l .inv .0 .cut) (c .before .before .before .before .before .before .loop-test .taken) (N .result) (N .ensures))
 
 -- where the next turn begins
 abbrev H : tie.After-vector-size64 Inv-loop μ-loop → tie.After-vectors-of Inv-loop μ-loop
-H c = c .before .before .before .before .before .before .before .before .before
+H c = c .before .before .before .before .before .before .before .before .before .before
 
-next : (c : tie.After-vector-size64 Inv-loop μ-loop) → Measuring binary64 (S (H c)) (Size (H c)) (Count (H c)) (Ps (H c)) (Vs (H c)) (c .before .before .before .before .before .before .before .loop .i + 1) (c .before .before .before .before .before .before .before .loop .start + c .before .before .before .before .before .least .result) (c .before .before .before .before .before .before .before .loop .total + c .vector-size64 .result)
+next : (c : tie.After-vector-size64 Inv-loop μ-loop) → Measuring binary64 (S (H c)) (Size (H c)) (Count (H c)) (Ps (H c)) (Vs (H c)) (c .before .before .before .before .before .before .before .before .loop .i + 1) (c .before .before .before .before .before .before .before .before .loop .start + c .before .before .before .before .before .before .least .result) (c .before .before .before .before .before .before .before .before .loop .total + c .vector-size64 .result)
 next c =
     let h = H c in
-    let l = c .before .before .before .before .before .before .before .loop in
-    let N = c .before .before .before .before .before .least in
-    let seen = c .before .scan-with64 in
-    measuring-next binary64 (S h) (Size h) (Count h) (Ps h) (Vs h) (settled h) (size-is h) (many-is h) (l .i) (l .start) (l .total) (l .inv .0) (c .before .before .before .before .before .before .loop-test .taken) (N .result) (N .ensures) (c .vector-size64 .result)
-    (c .vector-size64 .ensures ∙ vector-long binary64 (pairAt (Ps h) (2 * l .i)) (chunk (Vs h) (l .start) (N .result)) (asSeen64 (seen .result)) (seen .ensures))
+    let l = c .before .before .before .before .before .before .before .before .loop in
+    let N = c .before .before .before .before .before .before .least in
+    let k = c .before .before .before .scale-of64 in
+    let seen = c .before .scan64 in
+    let part = chunk (Vs h) (l .start) (N .result) in
+    measuring-next binary64 (S h) (Size h) (Count h) (Ps h) (Vs h) (settled h) (size-is h) (many-is h) (l .i) (l .start) (l .total) (l .inv .0) (c .before .before .before .before .before .before .before .loop-test .taken) (N .result) (N .ensures) (c .vector-size64 .result)
+    (c .vector-size64 .ensures ∙ vector-long binary64 (pair64 (k .result)) part (asSeen64 (seen .result)) (seen .ensures) ∙ ap (λ (p : Pair). length (bytesOf binary64 p part)) (k .ensures .0))
 
 add-total-2 : tie.Need-add-total-2 Inv-loop μ-loop
 add-total-2 c = let h = H c in omega (arith, total-small binary64 (S h) (Size h) (Count h) (Ps h) (Vs h) (settled h) (size-is h) (many-is h) _ _ _ (next c) (values-of h))
@@ -166,10 +176,11 @@ loop-less c = search needs
 loop-again : tie.Need-loop-again Inv-loop μ-loop
 loop-again c =
     let h = H (c .before) in
-    let l = c .before .before .before .before .before .before .before .before .loop in
-    let N = c .before .before .before .before .before .before .least in
-    let seen = c .before .before .scan-with64 in
-    let same = seen .ensures ∙ record-is binary64 (S h) (Size h) (Count h) (Ps h) (Vs h) (settled h) (size-is h) (many-is h) (l .i) (l .start) (l .inv .0 .cut) (c .before .before .before .before .before .before .before .loop-test .taken) (N .result) (N .ensures) (pairAt (Ps h) (2 * l .i)) refl in
+    let l = c .before .before .before .before .before .before .before .before .before .loop in
+    let N = c .before .before .before .before .before .before .before .least in
+    let k = c .before .before .before .before .scale-of64 in
+    let seen = c .before .before .scan64 in
+    let same = seen .ensures ∙ record-is binary64 (S h) (Size h) (Count h) (Ps h) (Vs h) (settled h) (size-is h) (many-is h) (l .i) (l .start) (l .inv .0 .cut) (c .before .before .before .before .before .before .before .before .loop-test .taken) (N .result) (N .ensures) (pair64 (k .result)) (k .ensures .0) in
     let kept = recorded-more binary64 (Size h) (Ps h) (Vs h) asSeen64 (l .i) (l .records .of) (seen .result) (l .inv .1) same in
     (next (c .before), subst (RecordedTo binary64 (Size h) (Ps h) (Vs h) asSeen64 (l .i + 1)) (sym (c .keep64 .ensures)) kept)
 
@@ -199,14 +210,15 @@ measure-page64-spec =
     least-requires
     add-end
     mul-j
-    mul-scan-with64
-    sub-scan-with64
-    part-scan-with64-start
-    part-scan-with64-end
-    shared-slice-read-t22
-    add-t24
-    shared-slice-read-t26
-    scan-with64-requires
+    shared-slice-read-t20
+    add-t17
+    shared-slice-read-t23
+    scale-of64-requires
+    mul-scan64
+    sub-scan64
+    part-scan64-start
+    part-scan64-end
+    scan64-requires
     vector-size64-requires
     add-total-2
     keep64-requires
