@@ -76,6 +76,23 @@ field-mono (negsuc m) (negsuc a) (negsuc b) h k =
     let y = leb→le b a k in
     rw (sub-abs (suc m) (suc a) (omega arith), sub-abs (suc m) (suc b) (omega arith)) (omega arith)
 
+-- and above a lower frame
+pub field-lower : (m n a : ℤ) → T (leZ n m) → T (leZ m a) → natAbs (a -ℤ m) ≤ natAbs (a -ℤ n)
+field-lower (pos m) (pos n) (pos a) h k =
+    let x : n ≤ m = leb→le n m h in
+    let y : m ≤ a = leb→le m a k in
+    rw (natAbs-minus a m y, natAbs-minus a n (le-trans x y)) (omega arith)
+field-lower (pos m) (negsuc n) (pos a) h k =
+    let y : m ≤ a = leb→le m a k in
+    rw (natAbs-minus a m y) (omega arith)
+field-lower (pos m) n (negsuc a) h k = absurd k
+field-lower (negsuc m) (pos n) a h k = absurd h
+field-lower (negsuc m) (negsuc n) (pos a) h k = let x = leb→le m n h in omega arith
+field-lower (negsuc m) (negsuc n) (negsuc a) h k =
+    let x = leb→le m n h in
+    let y = leb→le a m k in
+    rw (sub-abs (suc m) (suc a) (omega arith), sub-abs (suc n) (suc a) (omega arith)) (omega arith)
+
 -- the other way: a field is the whole number that it gives, less the frame
 mod-lap : (a n : ℕ) → n ≤ a → a < n * 2 → a % n ≡ a - n
 mod-lap a n h k = mod-eq-sub-mod h ∙ mod-eq-of-lt (omega arith)

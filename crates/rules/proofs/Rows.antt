@@ -1,6 +1,6 @@
 -- Rows in their order: what passes them, and what it shows that they pass. Assumes nothing.
 use mathlib.Core.Path.{_≡_, refl, sym, ap, _∙_, subst}
-use mathlib.Core.Bool.{Bool, true, false, not, _||_}
+use mathlib.Core.Bool.{Bool, true, false, not, _||_, cond}
 use mathlib.Core.List.{List}
 use Prim.Native.Nat.{ℕ}
 use native.Mathlib.Omega.{arith}
@@ -77,6 +77,11 @@ neither a b p q = cc
 pub or-false : (a b : Bool) → (a || b) ≡ false → (a ≡ false) × (b ≡ false)
 or-false true b e = let o : _≡_ {A = ℕ} 0 1 = cc in absurd (omega arith)
 or-false false b e = (refl, e)
+
+-- a choice between equals
+pub same-both : {A : Type 0} (t : Bool) (a : A) → cond t a a ≡ a
+same-both true a = refl
+same-both false a = refl
 
 -- ---- done
 

@@ -12,7 +12,9 @@ use Rattle.rules.specs.Write.{settingsRows, pageSize, writeOf}
 use Rattle.rules.specs.Read.{readOf}
 use Rattle.rules.specs.ReadVector.{readVectorOf}
 use Rattle.rules.specs.Examine.{examineOf}
+use Rattle.rules.specs.Choose.{chooseOf}
 use Rattle.rules.specs.declared.Answer.{Answer}
+use Rattle.rules.specs.declared.Choice.{Choice}
 
 -- the measuring call: the writer's rows less 15, and the page's size as place
 abbrev pub measured : Verdict → ℕ → Answer
@@ -42,6 +44,10 @@ pub record ReadVector (fmt : Format) (page : List ℕ) (number : ℕ) (out : Lis
 pub record Examined (fmt : Format) (page : List ℕ) (r : Answer) : Type 0 where
   pub answer-is : r ≡ answer (examineOf fmt page)
 
+-- the choosing of one vector's pair: answer and pair
+pub record Chosen (fmt : Format) (values : List ℕ) (r : Choice) : Type 0 where
+  pub choice-is : r ≡ chooseOf fmt values
+
 -- ---- document 01's "Given by" column: the rows that each call may refuse with
 
 abbrev pub given-by-measuring : List ℕ
@@ -59,6 +65,9 @@ given-by-vector-reader = 1 ∷ 2 ∷ 3 ∷ 4 ∷ 5 ∷ 6 ∷ 7 ∷ 8 ∷ 9 ∷ 1
 
 abbrev pub given-by-examiner : List ℕ
 given-by-examiner = 1 ∷ 2 ∷ 3 ∷ 4 ∷ 5 ∷ 6 ∷ 7 ∷ 8 ∷ 9 ∷ 10 ∷ 11 ∷ 12 ∷ 13 ∷ 14 ∷ 20 ∷ 21 ∷ 22 ∷ 23 ∷ 24 ∷ []
+
+abbrev pub given-by-chooser : List ℕ
+given-by-chooser = 31 ∷ []
 
 abbrev pub among : ℕ → List ℕ → Bool
 among a [] = false

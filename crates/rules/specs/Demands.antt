@@ -1,9 +1,9 @@
 -- The words in which the demands are said (theorems/proofs/Demands states and proves them): what holds of every call, of what it
 -- leaves, of a byte list that the examiner looks at, and of two that one vector's reading can't tell apart. Assumes nothing.
-use Prim.Native.Nat.{ℕ, _≤_}
+use Prim.Native.Nat.{ℕ, _≤_, _<_}
 use mathlib.Core.Path.{_≡_}
 use mathlib.Core.Logic.{_↔_}
-use mathlib.Core.List.{List}
+use mathlib.Core.List.{List, _∷_, _++_}
 use lib.ListN.{length, take, drop}
 use lib.Dec.{T}
 use lib.Ieee.{Format}
@@ -44,6 +44,16 @@ pub record Examines (fmt : Format) (bs : List ℕ) : Type 0 where
   pub one-only : (s s′ : ℕ) (ps ps′ : List Pair) (vs vs′ : List ℕ) → PageOf fmt bs s ps vs → PageOf fmt bs s′ ps′ vs′ → (s ≡ s′) × (ps ≡ ps′) × (vs ≡ vs′)
   -- and reading gives it, given room
   pub reads : (vs : List ℕ) (room : ℕ) → examineOf fmt bs ≡ done vs → length vs ≤ room → readOf fmt room bs ≡ done vs
+
+-- ---- of the choosing of a pair
+
+-- p is the first of the smallest: those before it have more bytes, and none behind it has fewer
+pub record FirstOfSmallest (size : Pair → ℕ) (ps : List Pair) (p : Pair) : Type 0 where
+  pub before : List Pair
+  pub behind : List Pair
+  pub pairs-are : ps ≡ before ++ (p ∷ behind)
+  pub more-before : Each (λ (q : Pair). size p < size q) before
+  pub no-fewer-behind : Each (λ (q : Pair). size p ≤ size q) behind
 
 -- ---- of one vector by its number
 

@@ -7,7 +7,8 @@ use mathlib.Core.List.{List, [], _∷_, _++_}
 use lib.ListN.{replicate}
 use lib.Ieee.{binary32, binary64}
 use Rattle.rules.specs.Verdict.{the-page, in-vector, in-vector-at, done, refused, done-with, refusal}
-use Rattle.rules.specs.Recordings.{hex, Line, writes, measures, reads, reads-vector, examines, written, flawed, faulty, allHold, allRules}
+use Rattle.rules.specs.Recordings.{hex, Line, writes, measures, reads, reads-vector, examines, chooses, written, flawed, faulty, allHold, allRules}
+use Rattle.rules.specs.declared.Choice.{Choice}
 
 -- ---- parts that many pages share, so that a line shows what is its own
 
@@ -638,6 +639,32 @@ alone =
     ∷ reads-vector binary32 (three 0x0C_00_00_00_0C_00_00_00_15_00_00_00 ++ all7 ++ all8) 0 8 (refused 8 (in-vector 0))
     ∷ []
 
+-- ---- choosing
+
+-- done with n values and the pair e, f
+abbrev pub pair : ℕ → ℕ → ℕ → Choice
+pair n e f = record { answer = done-with n; exponent = e; factor = f }
+
+abbrev pub none-chosen : Choice
+none-chosen = record { answer = refusal 31 the-page; exponent = 0; factor = 0 }
+
+unfoldable pub choosing : List Line
+choosing =
+    -- 7.0: all pairs that bring it back have the same bytes, and 0, 0 is the first
+    chooses binary32 (0x40E00000 ∷ []) (pair 1 0 0)
+    -- 0.4142, 931.01: 15 bytes with 6, 2 and with 7, 0 and others; the lesser exponent comes first, whatever its factor
+    ∷ chooses binary32 (0x3ED41206 ∷ 0x4468C0A4 ∷ []) (pair 2 6 2)
+    -- 1.0, 3.0, 95.55: 15 bytes with 6, 4; with 0, 0 an exception, and 16 bytes, two of them its position
+    ∷ chooses binary32 (0x3F800000 ∷ 0x40400000 ∷ 0x42BF199A ∷ []) (pair 3 6 4)
+    -- exceptions with every pair: a NaN, -0.0, an infinity
+    ∷ chooses binary32 (0x7FC00000 ∷ 0x80000000 ∷ 0xFF800000 ∷ []) (pair 3 0 0)
+    -- 31: no values, and one more than a vector holds
+    ∷ chooses binary32 [] none-chosen
+    ∷ chooses binary64 [] none-chosen
+    ∷ chooses binary32 (replicate 1025 0x40E00000) none-chosen
+    ∷ chooses binary64 (replicate 1025 0) none-chosen
+    ∷ []
+
 -- ---- the table
 
 unfoldable pub edges : List Line
@@ -646,3 +673,7 @@ edges = arithmetic ++ returns ++ shapes ++ refusals ++ flaws ++ settings ++ alon
 pub edges-hold : allHold edges ≡ true
 unfolding allRules rising edges arithmetic returns shapes refusals flaws settings alone
 edges-hold = refl
+
+pub choosing-holds : allHold choosing ≡ true
+unfolding allRules choosing
+choosing-holds = refl

@@ -8,6 +8,7 @@ pub mod Read
 pub mod ReadVector
 pub mod Examine
 pub mod Write
+pub mod Choose
 pub mod Calls
 pub mod Demands
 pub mod Recordings

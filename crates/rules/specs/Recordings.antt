@@ -17,8 +17,10 @@ use Rattle.rules.specs.Read.{readOf, allRead}
 use Rattle.rules.specs.ReadVector.{readVectorOf, allReadVector}
 use Rattle.rules.specs.Examine.{examineOf, allExamine}
 use Rattle.rules.specs.Write.{writeOf, allWrite}
+use Rattle.rules.specs.Choose.{chooseOf, allChoose}
 use Rattle.rules.specs.Calls.{measureOf}
 use Rattle.rules.specs.declared.Answer.{Answer}
+use Rattle.rules.specs.declared.Choice.{Choice}
 
 -- k bytes in the order in which they are written down, the first byte first: `hex 4 0x01_00_00_0A` is 1, 0, 0, 10
 unfoldable pub hex : ℕ → ℕ → List ℕ
@@ -36,6 +38,8 @@ pub data Line : Type 0 where
   reads : Format → List ℕ → ℕ → Result → Line
   reads-vector : Format → List ℕ → ℕ → ℕ → Result → Line
   examines : Format → List ℕ → Result → Line
+  -- the choosing of a vector's pair (kind, values)
+  chooses : Format → List ℕ → Choice → Line
   -- kind, s, pairs, values, page: measuring gives the page's length; the writer, lent just that, gives the page, and lent a byte less it
   -- refuses by 15; the reader, lent just the count, gives the values; and the examiner is done with them
   written : Format → ℕ → List ℕ → List ℕ → List ℕ → Line
@@ -61,12 +65,16 @@ gives (refused a p) (refused b q) = eqb a b && eqb (p .vector) (q .vector) && eq
 abbrev pub answers : Answer → Answer → Bool
 answers a b = eqb (a .number) (b .number) && eqb (a .vector) (b .vector) && eqb (a .place) (b .place)
 
+abbrev pub same-choice : Choice → Choice → Bool
+same-choice c d = answers (c .answer) (d .answer) && eqb (c .exponent) (d .exponent) && eqb (c .factor) (d .factor)
+
 unfoldable pub holds : Line → Bool
 holds (writes fmt s pairs vs room r) = gives (writeOf fmt s pairs vs room) r
 holds (measures fmt s pairs vs a) = answers (measureOf fmt s pairs vs) a
 holds (reads fmt page room r) = gives (readOf fmt room page) r
 holds (reads-vector fmt page v room r) = gives (readVectorOf fmt v room page) r
 holds (examines fmt page r) = gives (examineOf fmt page) r
+holds (chooses fmt vs c) = same-choice (chooseOf fmt vs) c
 holds (written fmt s pairs vs page) =
     answers (measureOf fmt s pairs vs) (done-with (length page))
     && gives (writeOf fmt s pairs vs (length page)) (done page)
@@ -82,7 +90,7 @@ allHold (l ∷ ls) = holds l && allHold ls
 
 -- to unfold this is to unfold all of the above, and all rules
 unfoldable pub allRules : Unit {0}
-unfolding hex holds allHold allDigits allDecimal allVector allPage allRead allReadVector allExamine allWrite measureOf
+unfolding hex holds allHold allDigits allDecimal allVector allPage allRead allReadVector allExamine allWrite allChoose measureOf
 allRules = tt
 
 -- ---- the starred recordings. A page is cut as document 01 cuts it: header, offsets, pair and count of exceptions, frame and width, packed

@@ -8,6 +8,14 @@ pub struct Answer {
     pub place: u64,
 }
 
+// What choosing a vector's pair answers: the answer, and the pair, which is 0 and 0 where it refuses.
+#[repr(C)]
+pub struct Choice {
+    pub answer: Answer,
+    pub exponent: u8,
+    pub factor: u8,
+}
+
 // A vector's exponent and its factor, each a type of its own, so that the two can't be swapped.
 pub struct Exponent(pub u8);
 
