@@ -10,32 +10,35 @@ use lib.ListN.{length, getD, take, drop, replicate}
 use lib.Dec.{T}
 use lib.IntN.{ℤ, natAbs}
 use lib.Signed.{mag, nonNeg}
-use lib.Ieee.{Format, Float, fin, up, down, mul, ofInt, ofBits, isNan, nanBits, fits, unlike}
+use lib.Ieee.{Format, binary32, binary64, Float, fin, up, down, mul, ofInt, ofBits, isNan, nanBits, fits, unlike}
 use lib.Ieee.Exact.{HasValue}
 use lib.Ieee.Scale.{finite}
 use mir.Val.{hbits}
 use Rattle.digits.specs.Lists.{Each}
+use Rattle.digits.proofs.Lists.{each-map}
 use Rattle.digits.specs.Digits.{bit, bitOf}
-use Rattle.rules.specs.Kind.{word, maxExponent, Bytes, Values}
+use Rattle.rules.specs.Kind.{minS, maxS, maxValues, word, maxExponent, Bytes, Values}
 use Rattle.rules.specs.Decimal.{Pair, power, negPower, scaled, signed, whole, back, exception}
 use Rattle.rules.specs.Floats.{NearestEven, RoundedOnce, NearestToInverse, AsNear, broughtBack}
 use Rattle.rules.specs.Vector.{Raw, tries, filled, fieldsOf, widthOf, encoded, fields, stored}
 use Rattle.rules.specs.Page.{vectors, pageOf, sOf, countOf, vectorsOf, bodyOf, metaAt}
-use Rattle.rules.specs.Verdict.{Point, the-page, fine, verdict, ordered, Passes, FirstTrue, done, refused, done-with, refusal, Result, answer, after}
+use Rattle.rules.specs.Verdict.{Point, the-page, fine, refuse, verdict, ordered, Passes, FirstTrue, done, refused, done-with, refusal, Result, answer, after}
 use Rattle.rules.specs.Read.{readRows, valuesOf, readOf}
 use Rattle.rules.specs.ReadVector.{valuesIn, readVectorRows, vectorValues, readVectorOf}
 use Rattle.rules.specs.Examine.{unusedSet, examineRows, examineOf}
 use Rattle.rules.specs.Write.{pairsOf, Allowed, Inside, settingsRows, pageSize, bound, writeRows, writeOf}
-use Rattle.rules.specs.Calls.{measureOf, Measured, Written, Read, ReadVector, Examined, among, given-by-measuring, given-by-writer, given-by-reader, given-by-vector-reader, given-by-examiner}
-use Rattle.rules.specs.Demands.{Answers, Leaves, Examines, Alike}
+use Rattle.rules.specs.Choose.{allPairs, sizeWith, firstPair, chosen, chosenPairs, chooseRows, choice, chooseOf}
+use Rattle.rules.specs.Calls.{measureOf, Measured, Written, Read, ReadVector, Examined, Chosen, among, given-by-chooser, given-by-measuring, given-by-writer, given-by-reader, given-by-vector-reader, given-by-examiner}
+use Rattle.rules.specs.Demands.{Answers, Leaves, Examines, FirstOfSmallest, Alike}
 use Rattle.rules.specs.declared.Answer.{Answer}
+use Rattle.rules.specs.declared.Choice.{Choice}
 use Rattle.rules.proofs.Order.{width-holds, width-fewest}
 use Rattle.rules.proofs.Settings.{settings-pass, settings-fine}
 use Rattle.rules.proofs.Powers as Powers
 use native.Mathlib.Omega.{arith}
 use Rattle.theorems.proofs.Called.{answers, leaves, measuring-gives, place-when-done}
-use Rattle.theorems.proofs.Examples.{nothing, nothing-written, nothing-read, nothing-accepted, no-bytes-refused, zeroPage, roomy, roomy-below, zero-written, zero-read, zero-vector-read, zero-lists-none}
-use Rattle.theorems.proofs.GivenBy.{measuring-numbered, writer-numbered, reader-numbered, vector-reader-numbered, examiner-numbered}
+use Rattle.theorems.proofs.Examples.{nothing, nothing-written, nothing-read, nothing-accepted, no-bytes-refused, zeroPage, roomy, roomy-below, zero-written, zero-read, zero-vector-read, zero-lists-none, half}
+use Rattle.theorems.proofs.GivenBy.{chooser-numbered, measuring-numbered, writer-numbered, reader-numbered, vector-reader-numbered, examiner-numbered}
 use Rattle.theorems.proofs.RoundTrip.{written-length, round-trip}
 use Rattle.theorems.proofs.Done.{examined-count, writer-done, writer-too-short, page-when-done, writer-room, reader-room, read-done, read-values-done, vector-done, vector-values-done, vector-reader-room, examined-reads}
 use Rattle.theorems.proofs.Stretch.{vector-is-stretch}
@@ -43,6 +46,8 @@ use Rattle.theorems.proofs.Elsewhere.{elsewhere-does-not-matter}
 use Rattle.theorems.proofs.Listing.{listed-exactly}
 use Rattle.theorems.proofs.Bits.{encoded-bit, fields-bit, unused-exactly}
 use Rattle.theorems.proofs.OnePage.{accepted-is-page, page-is-accepted, one-page}
+use Rattle.theorems.proofs.Choosing.{choosing-gives, vector-fine, pairs-32, pairs-64, tried-inside, of-every-pair, chosen-exactly}
+use Rattle.theorems.proofs.Shortest.{only-exceptions, chosen-settings, chosen-page, zero-exponent, half-exponent}
 use Rattle.theorems.proofs.Rounding as Rounding
 use Rattle.theorems.proofs.Nearest as Nearest
 
@@ -215,6 +220,40 @@ demand-3 fmt bs h = record {
   reads = examined-reads fmt bs;
 }
 
+-- ==== Choosing a pair (document 02, T-04): of all pairs inside the limits the first of those with the fewest bytes, whatever was left early
+
+-- nothing is lent to write to: row 31 with the pair 0, 0, or the count of values and the pair
+pub chooser-answers : (fmt : Format) (vs : List ℕ)
+    → ((a : ℕ) × (p : Point) × FirstTrue (ordered (chooseRows vs)) a p × T (among a given-by-chooser) × (chooseOf fmt vs ≡ choice (refuse a p) (length vs) (chosen fmt vs)))
+    ⊎ (Each Passes (ordered (chooseRows vs)) × (chooseOf fmt vs ≡ choice fine (length vs) (chosen fmt vs)))
+chooser-answers fmt vs = choosing-gives fmt vs (chooser-numbered vs)
+
+-- row 31 means exactly: no values, or more than a vector holds
+pub row-31-means : (vs : List ℕ) → (verdict (chooseRows vs) ≡ fine) ↔ ((1 ≤ length vs) × (length vs ≤ 2 ^ maxS))
+row-31-means = vector-fine
+
+-- 66 pairs are tried or 190, and they are exactly those inside the limits
+pub pairs-are-counted : (length (allPairs binary32) ≡ 66) × (length (allPairs binary64) ≡ 190)
+pairs-are-counted = (pairs-32, pairs-64)
+
+pub every-pair-is-tried : (fmt : Format) (P : Pair → Type 0) → Each P (allPairs fmt) ↔ ((p : Pair) → Allowed fmt p → P p)
+every-pair-is-tried fmt P = ((λ h. of-every-pair P fmt h), (λ h. each-map (Allowed fmt) P h (allPairs fmt) (tried-inside fmt)))
+
+-- what is chosen is the first of the smallest, and nothing else is
+pub chosen-is-first-of-smallest : (fmt : Format) (vs : List ℕ) (p : Pair) → p ≡ chosen fmt vs ↔ FirstOfSmallest (sizeWith fmt vs) (allPairs fmt) p
+chosen-is-first-of-smallest = chosen-exactly
+
+-- 0, 0 where all values are exceptions, whatever the pair
+pub only-exceptions-choose-the-first : (fmt : Format) (vs : List ℕ) → ((p : Pair) → Allowed fmt p → Each (λ (v : ℕ). exception fmt p v ≡ true) vs) → chosen fmt vs ≡ firstPair
+only-exceptions-choose-the-first = only-exceptions
+
+-- the writer takes the pairs chosen for each vector, and no other pairs make a shorter page with the same s
+pub chosen-pairs-are-inside : (fmt : Format) (s : ℕ) (vs : List ℕ) → minS ≤ s → s ≤ maxS → length vs ≤ maxValues → Inside fmt s (chosenPairs fmt s vs) (length vs)
+chosen-pairs-are-inside = chosen-settings
+
+pub no-page-is-shorter : (fmt : Format) (s : ℕ) (vs : List ℕ) (ps : List Pair) → Inside fmt s ps (length vs) → Values fmt vs → length (pageOf fmt s (chosenPairs fmt s vs) vs) ≤ length (pageOf fmt s ps vs)
+no-page-is-shorter = chosen-page
+
 -- ==== Pinned: any two results that a call's record allows are equal
 
 pub measured-pinned : (fmt : Format) (values : List ℕ) (s : ℕ) (pairs : List ℕ) (r r′ : Answer) → Measured fmt values s pairs r → Measured fmt values s pairs r′ → r ≡ r′
@@ -234,6 +273,9 @@ read-vector-pinned fmt page v out r r′ end end′ a b = (a .answer-is ∙ sym 
 pub examined-pinned : (fmt : Format) (page : List ℕ) (r r′ : Answer) → Examined fmt page r → Examined fmt page r′ → r ≡ r′
 examined-pinned fmt page r r′ a b = a .answer-is ∙ sym (b .answer-is)
 
+pub chosen-pinned : (fmt : Format) (values : List ℕ) (r r′ : Choice) → Chosen fmt values r → Chosen fmt values r′ → r ≡ r′
+chosen-pinned fmt values r r′ a b = a .choice-is ∙ sym (b .choice-is)
+
 -- ==== Shut out by name (document 01, "How tightly answers are pinned"): no call that keeps its record is one of these wrong programs
 
 -- a writer: what it answers and leaves, of the values, s, the pairs and the output lent to it; and so on
@@ -249,6 +291,9 @@ VectorReader = List ℕ → ℕ → List ℕ → Answer × List ℕ
 abbrev pub Examiner : Type 0
 Examiner = List ℕ → Answer
 
+abbrev pub Chooser : Type 0
+Chooser = List ℕ → Choice
+
 module _ (fmt : Format) where
   abbrev pub GoodWriter : Writer → Type 0
   GoodWriter W = (values : List ℕ) (s : ℕ) (pairs out : List ℕ) → Written fmt values s pairs out (W values s pairs out .0) (W values s pairs out .1)
@@ -261,6 +306,9 @@ module _ (fmt : Format) where
 
   abbrev pub GoodExaminer : Examiner → Type 0
   GoodExaminer X = (page : List ℕ) → Examined fmt page (X page)
+
+  abbrev pub GoodChooser : Chooser → Type 0
+  GoodChooser C = (values : List ℕ) → Chosen fmt values (C values)
 
   -- one that refuses everything
   pub not-a-writer-that-refuses-everything : (W : Writer) → GoodWriter W → ((values : List ℕ) (s : ℕ) (pairs out : List ℕ) → W values s pairs out .0 .number ≡ 0 → ⊥) → ⊥
@@ -318,6 +366,16 @@ module _ (fmt : Format) where
   pub not-a-vector-reader-that-leaves-the-output-alone : (R : VectorReader) → GoodVectorReader R → ((page : List ℕ) (v : ℕ) (out : List ℕ) → R page v out .1 ≡ out) → ⊥
   not-a-vector-reader-that-leaves-the-output-alone R good bad =
       one-is-not-zero (sym (good (zeroPage fmt) 0 (1 ∷ []) .output-is ∙ ap (λ (x : Result). after x (1 ∷ [])) (zero-vector-read fmt)) ∙ bad (zeroPage fmt) 0 (1 ∷ []))
+
+  -- a chooser of one fixed pair
+  pub not-a-chooser-of-one-pair : (C : Chooser) → GoodChooser C → (e : ℕ) → ((values : List ℕ) → C values .answer .number ≡ 0 → C values .exponent ≡ e) → ⊥
+  unfolding chooseOf chooseRows
+  not-a-chooser-of-one-pair C good e bad =
+      let zero = good (0 ∷ []) .choice-is in
+      let other = good (half fmt ∷ []) .choice-is in
+      let first : chosen fmt (0 ∷ []) .exponent ≡ e = sym (ap (λ (c : Choice). c .exponent) zero) ∙ bad (0 ∷ []) (ap (λ (c : Choice). c .answer .number) zero) in
+      let second : chosen fmt (half fmt ∷ []) .exponent ≡ e = sym (ap (λ (c : Choice). c .exponent) other) ∙ bad (half fmt ∷ []) (ap (λ (c : Choice). c .answer .number) other) in
+      half-exponent fmt (second ∙ sym first ∙ zero-exponent fmt)
 
   -- a done with an invented count: done's place is the page's length, the header's count, or the vector's
   pub writer-counts : (values : List ℕ) (s : ℕ) (pairs out : List ℕ) (r : Answer) (end : List ℕ) → Written fmt values s pairs out r end → r .number ≡ 0

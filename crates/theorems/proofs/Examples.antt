@@ -6,7 +6,7 @@ use lib.ListN.{replicate}
 use lib.Dec.{lit<}
 use lib.Ieee.{Format, binary32, binary64}
 use Rattle.digits.specs.Digits.{allDigits}
-use Rattle.rules.specs.Kind.{wordBytes}
+use Rattle.rules.specs.Kind.{wordBytes, metaBytes}
 use Rattle.rules.specs.Decimal.{allDecimal}
 use Rattle.rules.specs.Vector.{allVector}
 use Rattle.rules.specs.Page.{bodyOf, metaAt, allPage}
@@ -15,6 +15,7 @@ use Rattle.rules.specs.Read.{readOf, allRead}
 use Rattle.rules.specs.ReadVector.{readVectorOf, allReadVector}
 use Rattle.rules.specs.Examine.{examineOf, allExamine}
 use Rattle.rules.specs.Write.{bound, writeOf, allWrite}
+use Rattle.rules.specs.Choose.{sizeWith, firstPair}
 
 -- R3: the header alone
 abbrev pub nothing : List ℕ
@@ -75,3 +76,18 @@ pub zero-lists-none : (fmt : Format) → metaAt fmt (bodyOf (after (done (zeroPa
 unfolding allDigits allPage
 zero-lists-none binary32 = refl
 zero-lists-none binary64 = refl
+
+-- for 0.0 no vector is shorter than with 0, 0; for 0.5, which has no whole number with exponent 0, one is
+abbrev pub half : Format → ℕ
+half binary32 = 0x3F000000
+half binary64 = 0x3FE0000000000000
+
+pub zero-size : (fmt : Format) → sizeWith fmt (0 ∷ []) firstPair ≡ metaBytes fmt
+unfolding allDigits allDecimal allVector
+zero-size binary32 = refl
+zero-size binary64 = refl
+
+pub half-size : (fmt : Format) → sizeWith fmt (half fmt ∷ []) (record { exponent = 1; factor = 0 }) < sizeWith fmt (half fmt ∷ []) firstPair
+unfolding allDigits allDecimal allVector
+half-size binary32 = lit< tt
+half-size binary64 = lit< tt

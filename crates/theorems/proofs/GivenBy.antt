@@ -16,7 +16,8 @@ use Rattle.rules.specs.Read.{headRows, offsetsRow, metaRows, Listed, positionsR
 use Rattle.rules.specs.ReadVector.{numberRows, aloneRows, readVectorRows}
 use Rattle.rules.specs.Examine.{firstRows, rulesRows, allRulesRows, examineRows, strays, needless, unfilled, standInOf}
 use Rattle.rules.specs.Write.{pairsRows, settingsRows, pairsOf, writeRows}
-use Rattle.rules.specs.Calls.{among, given-by-measuring, given-by-writer, given-by-reader, given-by-vector-reader, given-by-examiner}
+use Rattle.rules.specs.Choose.{chooseRows}
+use Rattle.rules.specs.Calls.{among, given-by-chooser, given-by-measuring, given-by-writer, given-by-reader, given-by-vector-reader, given-by-examiner}
 use Rattle.theorems.proofs.Ordered.{Numbered}
 
 -- ---- the reader's rows 1 to 13, then 14, for any list that has these numbers
@@ -119,3 +120,7 @@ measuring-numbered fmt s pairs vs = (tt, (tt, (tt, pairs-numbered given-by-measu
 pub writer-numbered : (fmt : Format) (s : ℕ) (pairs vs : List ℕ) (room : ℕ) → Numbered given-by-writer (writeRows fmt s pairs vs room)
 unfolding writeRows settingsRows
 writer-numbered fmt s pairs vs room = ((tt, (tt, (tt, pairs-numbered given-by-writer tt tt fmt 0 (pairsOf pairs)))), tt)
+
+pub chooser-numbered : (vs : List ℕ) → Numbered given-by-chooser (chooseRows vs)
+unfolding chooseRows
+chooser-numbered vs = tt

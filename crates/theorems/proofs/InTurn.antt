@@ -1,32 +1,37 @@
 -- The calls themselves, one after the other: what is measured is just what writing takes, what is written is accepted, what is accepted is
--- read, what was read is written again to the same bytes, and each vector of what was read is read alone. Each call is known by its record
--- alone, lent its buffers as the last one left them. Assumes nothing.
-use mathlib.Core.Path.{_≡_, sym, ap, ap₂, _∙_, subst}
-use mathlib.Core.List.{List, _++_, append-nil}
+-- read, what was read is written again to the same bytes, each vector of what was read is read alone, and no pairs measure less than those
+-- chosen for each vector. Each call is known by its record alone, lent its buffers as the last one left them. Assumes nothing.
+use mathlib.Core.Path.{_≡_, refl, sym, ap, ap₂, _∙_, subst}
+use mathlib.Core.List.{List, [], _∷_, _++_, append-nil}
 use mathlib.Core.Logic.{inl, inr}
 use Prim.Native.Nat.{ℕ, _*_, _^_, _<_, _≤_}
-use lib.ListN.{length, take, drop, drop-of-length-le}
+use lib.ListN.{length, take, drop, length-take, length-drop, drop-of-length-le}
+use lib.Pow.{pow-pos, pow-mono}
+use native.Mathlib.Omega.{arith}
 use lib.Dec.{T}
 use native.Mathlib.Nat.{le-of-eq}
 use lib.Seq.{take-append-seam}
 use lib.Ieee.{Format}
 use Rattle.digits.specs.Lists.{over}
-use Rattle.rules.specs.Kind.{Bytes, Values}
+use Rattle.rules.specs.Kind.{minS, maxS, maxValues, Bytes, Values}
 use Rattle.rules.specs.Decimal.{Pair}
-use Rattle.rules.specs.Page.{pageOf, sOf, vectorsOf}
-use Rattle.rules.specs.Verdict.{fine, verdict, the-page, Result, done, answer, after, done-with, refusal}
+use Rattle.rules.specs.Page.{vectors, pageOf, sOf, vectorsOf}
+use Rattle.rules.specs.Verdict.{Verdict, fine, verdict, the-page, Result, done, answer, after, done-with, refusal}
 use Rattle.rules.specs.Read.{readOf}
 use Rattle.rules.specs.ReadVector.{valuesIn, readVectorOf}
 use Rattle.rules.specs.Examine.{examineOf}
 use Rattle.rules.specs.Write.{pairsOf, pairBytes, Inside, PageOf, settingsRows, pageSize, writeOf}
-use Rattle.rules.specs.Calls.{Measured, Written, Read, ReadVector, Examined, among, given-by-measuring, given-by-writer, given-by-reader, given-by-examiner}
+use Rattle.rules.specs.Choose.{chosen, chosenFor, chosenPairs, choice, chooseOf}
+use Rattle.rules.specs.Calls.{Chosen, measured, measureOf, Measured, Written, Read, ReadVector, Examined, among, given-by-measuring, given-by-writer, given-by-reader, given-by-examiner}
 use Rattle.rules.specs.declared.Answer.{Answer}
-use Rattle.rules.proofs.Settings.{pairs-back, length-pairBytes, settings-fine}
+use Rattle.rules.specs.declared.Choice.{Choice}
+use Rattle.rules.proofs.Encoded.{Covers, ceil, covers}
+use Rattle.rules.proofs.Settings.{pairs-back, length-pairBytes, settings-pass, settings-fine}
 use Rattle.theorems.proofs.Ordered.{passes-fine}
 use Rattle.theorems.proofs.Called.{done-when-zero}
 use Rattle.theorems.proofs.Done.{writer-done, page-when-done}
 use Rattle.theorems.proofs.OnePage.{page-is-accepted}
-use Rattle.theorems.proofs.Demands.{measuring-answers, writer-asks-for-the-page, writer-answers, reader-answers, examiner-answers, demand-3, one-vector-is-its-stretch}
+use Rattle.theorems.proofs.Demands.{row-31-means, chosen-pairs-are-inside, no-page-is-shorter, measuring-answers, writer-asks-for-the-page, writer-answers, reader-answers, examiner-answers, demand-3, one-vector-is-its-stretch}
 
 -- a call that is done has its output in front
 module _ (r : Result) (xs out : List ℕ) (e : r ≡ done xs) (a : Answer) (is : a ≡ answer r) (end : List ℕ) (left : end ≡ after r out) where
@@ -124,3 +129,60 @@ module _ (fmt : Format) where
       let whole : take (r .place) end ≡ d .0 = front-is (readOf fmt (length out) page) (d .0) out (d .1) r (read .answer-is) end (read .output-is) in
       front-is (readVectorOf fmt v (length free) page) _ free (one-vector-is-its-stretch fmt (length out) page (d .0) (d .1) v there (length free) fits) q (picked .answer-is) left (picked .output-is)
       ∙ ap (λ (l : List ℕ). take (2 ^ sOf page) (drop (v * 2 ^ sOf page) l)) (sym whole)
+
+-- choose for each vector of a column, then measure or write with the pairs chosen
+
+-- the choices for a column's vectors, each of `size` values, one after the other
+abbrev pub ChosenEach : Format → ℕ → List Choice → List ℕ → Type 0
+ChosenEach fmt size [] vs = Unit
+ChosenEach fmt size (c ∷ cs) vs = Chosen fmt (take size vs) c × ChosenEach fmt size cs (drop size vs)
+
+-- their pairs, as they are lent to the writer
+abbrev pub pairsIn : List Choice → List ℕ
+pairsIn [] = []
+pairsIn (c ∷ cs) = c .exponent ∷ c .factor ∷ pairsIn cs
+
+module _ (fmt : Format) (size : ℕ) (some : 0 < size) (small : size ≤ 2 ^ maxS) where
+  -- a vector of a column is never empty, so none of them is refused
+  pairs-chosen : (cs : List Choice) (vs : List ℕ) → ChosenEach fmt size cs vs → Covers size (length vs) (chosenFor fmt size (length cs) vs)
+      → pairsIn cs ≡ pairBytes (chosenFor fmt size (length cs) vs)
+  unfolding chosenFor pairBytes chooseOf
+  pairs-chosen [] vs h k = refl
+  pairs-chosen (c ∷ cs) vs h k =
+      let first = take size vs in
+      let there : 1 ≤ length first = rw length-take (omega (arith, k .0, some)) in
+      let fits : length first ≤ 2 ^ maxS = rw length-take (omega (arith, small)) in
+      let c-is : c ≡ choice fine (length first) (chosen fmt first) = h .0 .choice-is ∙ ap (λ (v : Verdict). choice v (length first) (chosen fmt first)) (row-31-means first .1 (there, fits)) in
+      let rest = pairs-chosen cs (drop size vs) (h .1) (rw length-drop (k .1)) in
+      ap₂ (λ (d : Choice) (l : List ℕ). d .exponent ∷ d .factor ∷ l) c-is rest
+
+module _ (fmt : Format) (values : List ℕ) (s : ℕ) (cs : List Choice) (low : minS ≤ s) (high : s ≤ maxS) (many : length values ≤ maxValues)
+    (one-each : length cs ≡ vectors s (length values)) (chosen-each : ChosenEach fmt (2 ^ s) cs values) where
+  abbrev best : List Pair
+  best = chosenPairs fmt s values
+
+  pairs-are : pairsIn cs ≡ pairBytes best
+  unfolding ceil
+  pairs-are =
+      let same : chosenFor fmt (2 ^ s) (length cs) values ≡ best = ap (λ (k : ℕ). chosenFor fmt (2 ^ s) k values) one-each in
+      let whole : Covers (2 ^ s) (length values) best = covers (2 ^ s) (length values) best (pow-pos s) (chosen-pairs-are-inside fmt s values low high many .one-each) in
+      pairs-chosen fmt (2 ^ s) (pow-pos s) (pow-mono high) cs values chosen-each (subst (Covers (2 ^ s) (length values)) (sym same) whole) ∙ ap pairBytes same
+
+  -- they are taken, and the page is measured that has them
+  pub choose-then-measure : (m : Answer) → Measured fmt values s (pairsIn cs) m → m ≡ done-with (length (pageOf fmt s best values))
+  unfolding measureOf
+  choose-then-measure m h =
+      let inside : Inside fmt s (pairsOf (pairBytes best)) (length values) = subst (λ (ps : List Pair). Inside fmt s ps (length values)) (sym (pairs-back best)) (chosen-pairs-are-inside fmt s values low high many) in
+      let two-each : length (pairBytes best) ≡ 2 * vectors s (length values) = length-pairBytes best ∙ ap (λ (n : ℕ). 2 * n) (chosen-pairs-are-inside fmt s values low high many .one-each) in
+      h .answer-is ∙ ap (λ (bs : List ℕ). measureOf fmt s bs values) pairs-are
+      ∙ ap (λ (v : Verdict). measured v (pageSize fmt s (pairBytes best) values)) (settings-pass fmt s (pairBytes best) values two-each inside)
+      ∙ ap (λ (ps : List Pair). done-with (length (pageOf fmt s ps values))) (pairs-back best)
+
+  -- and no other pairs that the writer takes measure less
+  pub none-measures-less : Values fmt values → (m : Answer) → Measured fmt values s (pairsIn cs) m → (other : List ℕ) (n : Answer) → Measured fmt values s other n → n .number ≡ 0 → m .place ≤ n .place
+  none-measures-less ok m mine other n theirs zero =
+      let size = measured-size fmt values s other n theirs zero in
+      let shorter = no-page-is-shorter fmt s values (pairsOf other) (settings-fine fmt s other values (size .0) .1) ok in
+      let a = ap (λ (x : Answer). x .place) (choose-then-measure m mine) in
+      let b = ap (λ (x : Answer). x .place) (size .1) in
+      omega (arith, shorter, a, b)

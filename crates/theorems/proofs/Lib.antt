@@ -11,6 +11,8 @@ pub mod Listing
 pub mod Bits
 pub mod Done
 pub mod Stretch
+pub mod Choosing
+pub mod Shortest
 pub mod Examples
 pub mod Demands
 pub mod InTurn

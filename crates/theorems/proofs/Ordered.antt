@@ -23,7 +23,7 @@ fine-passes (x then y) e = go (verdict x) (fine-passes x) (fine-passes y) e
     go fine f g e = each-append Passes (ordered x) (ordered y) (f refl) (g e)
     go (refuse a p) f g e = let o : _≡_ {A = ℕ} 0 1 = cc in absurd (omega arith)
 
-each-split : {A : Type 0} (P : A → Type 0) (xs ys : List A) → Each P (xs ++ ys) → Each P xs × Each P ys
+pub each-split : {A : Type 0} (P : A → Type 0) (xs ys : List A) → Each P (xs ++ ys) → Each P xs × Each P ys
 each-split P [] ys h = (tt, h)
 each-split P (x ∷ xs) ys h = let r = each-split P xs ys (h .1) in ((h .0, r .0), r .1)
 
