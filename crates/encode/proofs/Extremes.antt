@@ -11,6 +11,7 @@ use lib.Dec.{T, leb→le}
 use lib.Signed.{leZ}
 use Rattle.digits.specs.Lists.{Each}
 use Rattle.rules.specs.Vector.{standIn, filled, orElse, lesser, leastOf, least, fieldsOf, greatest}
+use Rattle.rules.proofs.Rows.{same-both}
 use Rattle.rules.proofs.Order.{leZ-refl, leZ-trans, lesser-cases, AtMost, least-below}
 use Rattle.rules.proofs.Fields.{field-mono}
 use Rattle.encode.specs.Seen.{greater, mostOf, most}
@@ -45,10 +46,6 @@ highest-append m (t ∷ ts) us = highest-append (raised m t) ts us
 
 -- ---- two numbers
 
-same-both : (b : Bool) (a : ℤ) → cond b a a ≡ a
-same-both true a = refl
-same-both false a = refl
-
 leZ-anti : (a b : ℤ) → T (leZ a b) → T (leZ b a) → a ≡ b
 leZ-anti (pos a) (pos b) h k = let x = leb→le a b h in let y = leb→le b a k in let e : a ≡ b = omega arith in ap pos e
 leZ-anti (pos a) (negsuc b) h k = absurd h
@@ -72,6 +69,20 @@ lesser-is a b t = lesser-cases (λ (x : ℤ). x ≡ a) a b (λ u. refl) (λ u. l
 
 greater-is : (a b : ℤ) → T (leZ b a) → greater a b ≡ a
 greater-is a b t = greater-cases (λ (x : ℤ). x ≡ a) a b (λ u. leZ-anti b a t u) (λ u. refl)
+
+-- ---- more of them only widen the range
+
+pub lowest-le : (m : ℤ) (ts : List (Option ℤ)) → T (leZ (lowest m ts) m)
+unfolding lowest
+lowest-le m [] = leZ-refl m
+lowest-le m (none ∷ ts) = lowest-le m ts
+lowest-le m (some z ∷ ts) = leZ-trans (lowest (lesser m z) ts) (lesser m z) m (lowest-le (lesser m z) ts) (lesser-cases (λ (x : ℤ). T (leZ x m)) m z (λ t. leZ-refl m) (λ t. t))
+
+pub highest-ge : (m : ℤ) (ts : List (Option ℤ)) → T (leZ m (highest m ts))
+unfolding highest
+highest-ge m [] = leZ-refl m
+highest-ge m (none ∷ ts) = highest-ge m ts
+highest-ge m (some z ∷ ts) = leZ-trans m (greater m z) (highest (greater m z) ts) (greater-cases (λ (x : ℤ). T (leZ m x)) m z (λ t. t) (λ t. leZ-refl m)) (highest-ge (greater m z) ts)
 
 -- ---- an exception's stand-in s lowers and raises nothing, once s was seen
 

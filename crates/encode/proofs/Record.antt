@@ -10,7 +10,7 @@ use native.Mathlib.Omega.{arith}
 use lib.ListN.{length, length-append, length-map}
 use lib.Dec.{ltb}
 use borrow.Author.Tests.{ltb-true, ltb-false}
-use lib.IntN.{ℤ, pos}
+use lib.IntN.{ℤ}
 use lib.Ieee.{Format, size}
 use Rattle.digits.specs.Digits.{packedSize}
 use Rattle.rules.specs.Kind.{metaBytes, wordBytes}
@@ -19,7 +19,7 @@ use Rattle.rules.specs.Vector.{tries, standIn, filled, lesser, least, fieldsOf,
 use Rattle.rules.specs.Page.{sizeOf}
 use Rattle.rules.proofs.Encoded.{places-few, length-filled}
 use Rattle.encode.specs.Vectors.{Short, fieldsIn}
-use Rattle.encode.specs.Seen.{Seen, greater, most, seenOf, see, seeAll, seeMore, Kept, widthSeen, sizeSeen}
+use Rattle.encode.specs.Seen.{Seen, nothing, greater, most, seenOf, see, seeAll, seeMore, Kept, widthSeen, sizeSeen}
 use Rattle.encode.proofs.Extremes.{lowest, highest, lowest-append, highest-append, lowest-is, highest-is, most-field, least-most}
 
 -- how many positions there are does not depend on where they are counted from
@@ -29,7 +29,7 @@ listed-from i j [] = refl
 listed-from i j (none ∷ ts) = ap suc (listed-from (suc i) (suc j) ts)
 listed-from i j (some z ∷ ts) = listed-from (suc i) (suc j) ts
 
-listed-append : (i : ℕ) (ts us : List (Option ℤ)) → length (places i (ts ++ us)) ≡ length (places i ts) + length (places 0 us)
+pub listed-append : (i : ℕ) (ts us : List (Option ℤ)) → length (places i (ts ++ us)) ≡ length (places i ts) + length (places 0 us)
 unfolding places
 listed-append i [] us = listed-from i 0 us ∙ omega arith
 listed-append i (none ∷ ts) us = let h = listed-append (suc i) ts us in omega (arith, h)
@@ -68,13 +68,13 @@ all-grown s (some z ∷ ts) = all-grown (see s (some z)) ts ∙ (λ i. record {
 
 -- ---- whether a value so far has a whole number
 
-some-so-far : (i : ℕ) (ts us : List (Option ℤ)) → length (places i ts) < length ts → standIn (ts ++ us) ≡ standIn ts
+pub some-so-far : (i : ℕ) (ts us : List (Option ℤ)) → length (places i ts) < length ts → standIn (ts ++ us) ≡ standIn ts
 unfolding places standIn
 some-so-far i [] us h = absurd (omega arith)
 some-so-far i (none ∷ ts) us h = some-so-far (suc i) ts us (omega arith)
 some-so-far i (some z ∷ ts) us h = refl
 
-none-so-far : (i : ℕ) (ts us : List (Option ℤ)) → length ts ≤ length (places i ts) → (standIn (ts ++ us) ≡ standIn us) × ((z : ℤ) → (lowest z ts ≡ z) × (highest z ts ≡ z))
+pub none-so-far : (i : ℕ) (ts us : List (Option ℤ)) → length ts ≤ length (places i ts) → (standIn (ts ++ us) ≡ standIn us) × ((z : ℤ) → (lowest z ts ≡ z) × (highest z ts ≡ z))
 unfolding places standIn lowest highest
 none-so-far i [] us h = (refl, λ z. (refl, refl))
 none-so-far i (none ∷ ts) us h = none-so-far (suc i) ts us (omega arith)
@@ -111,7 +111,7 @@ seen-more ts us = go (ltb (length (places 0 ts)) (length ts)) refl
         ∙ grown-is s ts us refl refl d (d ∙ sym ((n .1 (standIn (ts ++ us))) .0)) (d ∙ sym ((n .1 (standIn (ts ++ us))) .1))
 
 -- the first piece
-pub seen-first : (us : List (Option ℤ)) → seeMore (record { count = 0; listed = 0; stand = pos 0; smallest = pos 0; largest = pos 0 }) us ≡ seenOf us
+pub seen-first : (us : List (Option ℤ)) → seeMore nothing us ≡ seenOf us
 unfolding seenOf places standIn least most
 seen-first us = seen-more [] us
 

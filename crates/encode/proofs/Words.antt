@@ -1,19 +1,21 @@
 -- The record of a vector in progress, its signed numbers gone through words, over the width. Assumes nothing.
 use mathlib.Core.Path.{_≡_, refl, sym, ap, ap₂, _∙_}
 use mathlib.Core.Bool.{Bool, true, false, cond}
+use mathlib.Core.List.{[], _∷_}
 use mathlib.Core.Option.{Option, none, some}
 use Prim.Native.Nat.{_+_, _≤_, _<_}
 use native.Mathlib.Nat.{le-refl}
 use native.Mathlib.Omega.{arith}
 use lib.Dec.{ltb}
 use borrow.Author.Tests.{lt-ltb, le-ltb}
-use lib.IntN.{ℤ}
+use lib.IntN.{ℤ, pos}
 use lib.Signed.{leZ}
 use mir.Syntax.{Width}
 use mir.Val.{toZ, ofZ, SFits}
 use mir.ValLaws.{toZ-ofZ}
-use Rattle.rules.specs.Vector.{lesser}
-use Rattle.encode.specs.Seen.{Seen, greater, see, begun}
+use Rattle.rules.specs.Vector.{standIn, lesser}
+use Rattle.rules.proofs.Rows.{same-both}
+use Rattle.encode.specs.Seen.{Seen, greater, see, seeAll, begun, seeMore}
 
 -- the test of two of them chooses as the numbers do
 pub chosen : {A : Type 0} (w : Width) (a b : ℤ) {t : Bool} (x y : A) → SFits w a → SFits w b → leZ (toZ w (ofZ w a)) (toZ w (ofZ w b)) ≡ t → cond t x y ≡ cond (leZ a b) x y
@@ -54,11 +56,12 @@ see-counts s (some z) = (refl, omega arith)
 pub begun-some : (s : Seen) (z : ℤ) → s .listed < s .count → s ≡ begun s z
 begun-some s z h = ap (λ (b : Bool). cond b s (record { count = s .count; listed = s .listed; stand = z; smallest = z; largest = z })) (sym (lt-ltb (s .listed) (s .count) h))
 
+begun-is : (s : Seen) (z : ℤ) → s .count ≤ s .listed → record { count = s .count; listed = s .listed; stand = z; smallest = z; largest = z } ≡ begun s z
+begun-is s z h = ap (λ (b : Bool). cond b s (record { count = s .count; listed = s .listed; stand = z; smallest = z; largest = z })) (sym (le-ltb (s .listed) (s .count) h))
+
 pub begun-none : (w : Width) (s : Seen) (z r : ℤ) → s .count ≤ s .listed → SFits w r → r ≡ z
     → record { count = s .count; listed = s .listed; stand = toZ w (ofZ w r); smallest = toZ w (ofZ w r); largest = toZ w (ofZ w r) } ≡ begun s z
-begun-none w s z r h f q =
-    ap (λ (x : ℤ). record { count = s .count; listed = s .listed; stand = x; smallest = x; largest = x }) (toZ-ofZ w r f ∙ q)
-    ∙ ap (λ (b : Bool). cond b s (record { count = s .count; listed = s .listed; stand = z; smallest = z; largest = z })) (sym (le-ltb (s .listed) (s .count) h))
+begun-none w s z r h f q = ap (λ (x : ℤ). record { count = s .count; listed = s .listed; stand = x; smallest = x; largest = x }) (toZ-ofZ w r f ∙ q) ∙ begun-is s z h
 
 pub begun-counts : (s : Seen) (z : ℤ) → (begun s z .count ≡ s .count) × (begun s z .listed ≡ s .listed)
 begun-counts s z = go (ltb (s .listed) (s .count))
@@ -69,3 +72,24 @@ begun-counts s z = go (ltb (s .listed) (s .count))
     go : (b : Bool) → (cond b s other .count ≡ s .count) × (cond b s other .listed ≡ s .listed)
     go true = (refl, refl)
     go false = (refl, refl)
+
+-- ---- one value, as a piece of its own
+
+pub see-one : (s : Seen) (t : Option ℤ) → s .listed < s .count → see s t ≡ seeMore s (t ∷ [])
+unfolding seeAll
+see-one s t h = ap (λ (x : Seen). see x t) (begun-some s (standIn (t ∷ [])) h)
+
+module _ (s : Seen) (h : s .count ≤ s .listed) (t : Option ℤ) where
+  pub only-exceptions : t ≡ none → record { count = s .count + 1; listed = s .listed + 1; stand = pos 0; smallest = pos 0; largest = pos 0 } ≡ seeMore s (t ∷ [])
+  unfolding seeAll standIn
+  only-exceptions e = ap (λ (x : Seen). see x none) (begun-is s (pos 0) h) ∙ ap (λ (u : Option ℤ). seeMore s (u ∷ [])) (sym e)
+
+  pub first-whole : (w : Width) (z : ℤ) → t ≡ some z → SFits w z
+      → record { count = s .count + 1; listed = s .listed; stand = toZ w (ofZ w z); smallest = toZ w (ofZ w z); largest = toZ w (ofZ w z) } ≡ seeMore s (t ∷ [])
+  unfolding seeAll standIn
+  first-whole w z e f =
+      let itself = sym (same-both (leZ z z) z) in
+      ap (λ (x : ℤ). record { count = s .count + 1; listed = s .listed; stand = x; smallest = x; largest = x }) (toZ-ofZ w z f)
+      ∙ (λ i. record { count = s .count + 1; listed = s .listed; stand = z; smallest = itself i; largest = itself i })
+      ∙ ap (λ (x : Seen). see x (some z)) (begun-is s z h)
+      ∙ ap (λ (u : Option ℤ). seeMore s (u ∷ [])) (sym e)

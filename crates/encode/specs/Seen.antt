@@ -24,6 +24,9 @@ pub record Seen : Type 0 where
   pub smallest : ℤ
   pub largest : ℤ
 
+abbrev pub nothing : Seen
+nothing = record { count = 0; listed = 0; stand = pos 0; smallest = pos 0; largest = pos 0 }
+
 abbrev pub asSeen64 : Seen64 → Seen
 asSeen64 r = record { count = r .count; listed = r .listed; stand = r .«stand_in»; smallest = r .smallest; largest = r .largest }
 

@@ -1,6 +1,8 @@
 // The records of a page's first vectors, kept from measuring, so that writing need not scan those vectors again.
 use crate::scan::Seen32;
 use crate::scan::Seen64;
+use crate::scan::nothing32;
+use crate::scan::nothing64;
 use crate::scan::scan32;
 use crate::scan::scan64;
 use decimal::tables::Scale32;
@@ -24,25 +26,15 @@ pub struct Records32 {
 }
 
 pub fn no_records64() -> Records64 {
-    let nothing = Seen64 {
-        count: 0,
-        listed: 0,
-        stand_in: 0,
-        smallest: 0,
-        largest: 0,
-    };
-    Records64 { of: [nothing; 16] }
+    Records64 {
+        of: [nothing64(); 16],
+    }
 }
 
 pub fn no_records32() -> Records32 {
-    let nothing = Seen32 {
-        count: 0,
-        listed: 0,
-        stand_in: 0,
-        smallest: 0,
-        largest: 0,
-    };
-    Records32 { of: [nothing; 16] }
+    Records32 {
+        of: [nothing32(); 16],
+    }
 }
 
 // With the record of vector i, if there is a place for it.

@@ -10,6 +10,7 @@ use decimal::whole::Turned64;
 use decimal::whole::whole32;
 use decimal::whole::whole64;
 ghost use mathlib.Core.Path.{_≡_};
+ghost use mathlib.Core.List.{[], _∷_};
 ghost use Prim.Native.Nat.{_+_, _^_, _≤_};
 ghost use lib.ListN.{length};
 ghost use lib.Ieee.{binary32, binary64};
@@ -17,7 +18,7 @@ ghost use Rattle.rules.specs.Vector.{tries, standIn, lesser};
 ghost use Rattle.decimal.specs.Scale.{pair32, pair64, Scales32, Scales64};
 ghost use Rattle.decimal.specs.Turn.{asTry32, asTry64};
 ghost use Rattle.encode.specs.Vectors.{Short};
-ghost use Rattle.encode.specs.Seen.{asSeen32, asSeen64, greater, seenOf, see, begun, seeMore, Kept, widthSeen, packedEnd, sizeSeen};
+ghost use Rattle.encode.specs.Seen.{asSeen32, asSeen64, nothing, greater, seenOf, see, begun, seeMore, Kept, widthSeen, packedEnd, sizeSeen};
 
 // Counts of values and of exceptions seen; the stand-in, and the smallest and the largest whole number. The list with stand-ins begins with
 // the stand-in, so these two start there and pass over the exceptions.
@@ -35,6 +36,31 @@ pub struct Seen32 {
     pub stand_in: i32,
     pub smallest: i32,
     pub largest: i32,
+}
+
+// The record of no values.
+pub fn nothing64() -> Seen64
+    ensures { λ r. ⌜ asSeen64 r ≡ nothing ⌝ }
+{
+    Seen64 {
+        count: 0,
+        listed: 0,
+        stand_in: 0,
+        smallest: 0,
+        largest: 0,
+    }
+}
+
+pub fn nothing32() -> Seen32
+    ensures { λ r. ⌜ asSeen32 r ≡ nothing ⌝ }
+{
+    Seen32 {
+        count: 0,
+        listed: 0,
+        stand_in: 0,
+        smallest: 0,
+        largest: 0,
+    }
 }
 
 fn lesser64(a: i64, b: i64) -> i64
@@ -192,6 +218,62 @@ fn see32(seen: Seen32, turned: Turned32) -> Seen32
     }
 }
 
+// The record with one value more, which may be the first that has a whole number. Who looks at values one by one tries each of them once:
+// a stand-in is not looked for ahead, as it is for a piece.
+pub fn see_next64(seen: Seen64, turned: Turned64) -> Seen64
+    requires { ⌜ (seen .listed ≤ seen .count) × Short (seen .count) ⌝ }
+    ensures { λ r. ⌜ asSeen64 r ≡ seeMore (asSeen64 seen) (asTry64 turned ∷ []) ⌝ }
+{
+    let count = seen.count;
+    let listed = seen.listed;
+    if listed < count {
+        return see64(seen, turned);
+    }
+    match turned {
+        Turned64::Exception => Seen64 {
+            count: count + 1,
+            listed: listed + 1, // and so it has no stand-in yet
+            stand_in: 0,
+            smallest: 0,
+            largest: 0,
+        },
+        Turned64::Whole(z) => Seen64 {
+            count: count + 1,
+            listed: listed,
+            stand_in: z, // the first that has one
+            smallest: z,
+            largest: z,
+        },
+    }
+}
+
+pub fn see_next32(seen: Seen32, turned: Turned32) -> Seen32
+    requires { ⌜ (seen .listed ≤ seen .count) × Short (seen .count) ⌝ }
+    ensures { λ r. ⌜ asSeen32 r ≡ seeMore (asSeen32 seen) (asTry32 turned ∷ []) ⌝ }
+{
+    let count = seen.count;
+    let listed = seen.listed;
+    if listed < count {
+        return see32(seen, turned);
+    }
+    match turned {
+        Turned32::Exception => Seen32 {
+            count: count + 1,
+            listed: listed + 1,
+            stand_in: 0,
+            smallest: 0,
+            largest: 0,
+        },
+        Turned32::Whole(z) => Seen32 {
+            count: count + 1,
+            listed: listed,
+            stand_in: z,
+            smallest: z,
+            largest: z,
+        },
+    }
+}
+
 // The record with a piece more.
 pub fn see_more64(seen: Seen64, values: &[u64], scale: Scale64) -> Seen64
     requires { ⌜ Scales64 scale × (seen .listed ≤ seen .count) × Short (seen .count + length (now values)) ⌝ }
@@ -226,28 +308,14 @@ pub fn scan64(values: &[u64], scale: Scale64) -> Seen64
     requires { ⌜ Scales64 scale × Short (length (now values)) ⌝ }
     ensures { λ r. ⌜ asSeen64 r ≡ seenOf (tries binary64 (pair64 scale) (now (values .entry))) ⌝ }
 {
-    let nothing = Seen64 {
-        count: 0,
-        listed: 0,
-        stand_in: 0,
-        smallest: 0,
-        largest: 0,
-    };
-    see_more64(nothing, values, scale)
+    see_more64(nothing64(), values, scale)
 }
 
 pub fn scan32(values: &[u32], scale: Scale32) -> Seen32
     requires { ⌜ Scales32 scale × Short (length (now values)) ⌝ }
     ensures { λ r. ⌜ asSeen32 r ≡ seenOf (tries binary32 (pair32 scale) (now (values .entry))) ⌝ }
 {
-    let nothing = Seen32 {
-        count: 0,
-        listed: 0,
-        stand_in: 0,
-        smallest: 0,
-        largest: 0,
-    };
-    see_more32(nothing, values, scale)
+    see_more32(nothing32(), values, scale)
 }
 
 // ---- the size of the vector
