@@ -1,11 +1,12 @@
 //! What a call says: done with a count, or a refusal with its row.
 //!
-//! Document 01, "When a call says no", and document 02's T-01. A row that
-//! names several reasons is split here, so that each reason is counted and
-//! none goes untried.
+//! Document 01, "When a call says no", and document 02's T-01 and T-04. A row
+//! that names several reasons is split here, so that each reason is counted
+//! and none goes untried.
 
-/// The five calls. Measuring is the writer's first step, offered by itself;
-/// reading one vector by its number is document 02's T-01.
+/// The six calls. Measuring is the writer's first step, offered by itself;
+/// reading one vector by its number is document 02's T-01, choosing a vector's
+/// pair its T-04.
 #[derive(Clone, Copy, PartialEq, Eq, Debug)]
 pub enum Call {
     Measure,
@@ -13,10 +14,11 @@ pub enum Call {
     Read,
     Examine,
     ReadVector,
+    Choose,
 }
 
-pub const CALLS: [Call; 5] =
-    [Call::Measure, Call::Write, Call::Read, Call::Examine, Call::ReadVector];
+pub const CALLS: [Call; 6] =
+    [Call::Measure, Call::Write, Call::Read, Call::Examine, Call::ReadVector, Call::Choose];
 
 impl Call {
     pub fn name(self) -> &'static str {
@@ -26,6 +28,7 @@ impl Call {
             Call::Read => "read",
             Call::Examine => "examine",
             Call::ReadVector => "vector",
+            Call::Choose => "choose",
         }
     }
 }
@@ -62,6 +65,8 @@ pub enum Fault {
     FrameNotSmallest,
     WidthNotFewest,
     NoSuchVector,
+    EmptyVector,
+    VectorTooLong,
 }
 
 /// One line of the table: the row, who gives it, and in which words.
@@ -74,13 +79,15 @@ pub struct Line {
     pub of_vector: bool,
 }
 
-const ALL: &[Call] = &CALLS;
+const ON_PAGES: &[Call] =
+    &[Call::Measure, Call::Write, Call::Read, Call::Examine, Call::ReadVector];
 const PAGE: &[Call] = &[Call::Read, Call::Examine, Call::ReadVector];
 const WHOLE_PAGE: &[Call] = &[Call::Read, Call::Examine];
 const ONE_VECTOR: &[Call] = &[Call::ReadVector];
 const WRITING: &[Call] = &[Call::Measure, Call::Write];
 const OUTPUT: &[Call] = &[Call::Write, Call::Read, Call::ReadVector];
 const EXAMINER: &[Call] = &[Call::Examine];
+const CHOOSER: &[Call] = &[Call::Choose];
 
 const fn line(
     fault: Fault,
@@ -92,23 +99,23 @@ const fn line(
     Line { fault, row, text, given_by, of_vector }
 }
 
-/// Document 01's table, with T-01's rows. "All" there counts the measuring
-/// step as the writer's.
-pub const TABLE: [Line; 29] = [
+/// Document 01's table, with the rows of T-01 and T-04. "All" there is what
+/// writes or reads a page, and counts the measuring step as the writer's.
+pub const TABLE: [Line; 31] = [
     line(Fault::FewBytes, 1, "fewer than 8 bytes", PAGE, false),
     line(Fault::Version, 2, "version not 1", PAGE, false),
     line(Fault::Mode, 3, "mode not 0", PAGE, false),
     line(Fault::IntegerEncoding, 4, "integer encoding not 0", PAGE, false),
-    line(Fault::VectorSize, 5, "s below 3 or above 10", ALL, false),
-    line(Fault::TooManyValues, 6, "more than 16,384 values", ALL, false),
+    line(Fault::VectorSize, 5, "s below 3 or above 10", ON_PAGES, false),
+    line(Fault::TooManyValues, 6, "more than 16,384 values", ON_PAGES, false),
     line(Fault::OffsetsPastEnd, 7, "offsets run past the end", PAGE, false),
     line(Fault::MetadataPastEnd, 7, "metadata runs past the end", PAGE, true),
     line(Fault::DataPastEnd, 7, "data runs past the end", PAGE, true),
     line(Fault::WrongOffset, 8, "an offset differs", WHOLE_PAGE, true),
     line(Fault::StartsTooEarly, 8, "starts before the offsets' end", ONE_VECTOR, true),
     line(Fault::EndsElsewhere, 8, "doesn't end where offsets say", ONE_VECTOR, true),
-    line(Fault::ExponentAbove, 9, "exponent above E", ALL, true),
-    line(Fault::FactorAbove, 10, "factor above exponent", ALL, true),
+    line(Fault::ExponentAbove, 9, "exponent above E", ON_PAGES, true),
+    line(Fault::FactorAbove, 10, "factor above exponent", ON_PAGES, true),
     line(Fault::TooManyExceptions, 11, "more exceptions than values", PAGE, true),
     line(Fault::WidthAbove, 12, "width above W", PAGE, true),
     line(Fault::PositionTooHigh, 13, "a position not below the count", PAGE, true),
@@ -124,6 +131,8 @@ pub const TABLE: [Line; 29] = [
     line(Fault::FrameNotSmallest, 24, "frame not the smallest", EXAMINER, true),
     line(Fault::WidthNotFewest, 24, "width not the fewest bits", EXAMINER, true),
     line(Fault::NoSuchVector, 30, "no such vector", ONE_VECTOR, false),
+    line(Fault::EmptyVector, 31, "an empty vector", CHOOSER, false),
+    line(Fault::VectorTooLong, 31, "a vector of more than 1,024", CHOOSER, false),
 ];
 
 impl Fault {

@@ -3,7 +3,7 @@
 //! A column is built sound, vector by vector, from flavours of values that
 //! lie where the rules turn. Then, by its index, a fault may be put in.
 
-use crate::floats::{Kind, KINDS, LARGEST_32, LARGEST_64, TENS_64};
+use crate::floats::{Kind, Pair, KINDS, LARGEST_32, LARGEST_64, TENS_64};
 use crate::layout::{bound, is_vector_size, vectors, MOST_VALUES};
 use crate::random::Random;
 use crate::rooms::{exceptions, Room, Shape, ENOUGH};
@@ -70,13 +70,6 @@ const FLAVOURS: [Flavour; 9] = [
     Flavour::Powers,
 ];
 
-/// A pair of exponent and factor that the rules allow.
-#[derive(Clone, Copy)]
-pub struct Pair {
-    pub exponent: usize,
-    pub factor: usize,
-}
-
 pub fn any_pair(kind: Kind, random: &mut Random) -> Pair {
     // Small exponents are what columns mostly have.
     let most = if random.one_in(2) { 4 } else { kind.largest_exponent() };
@@ -116,7 +109,8 @@ fn decimal(kind: Kind, pair: Pair, random: &mut Random) -> u64 {
     kind.nearest(random.of_bits(most) as f64 / TENS_64[digits])
 }
 
-fn special(kind: Kind, random: &mut Random) -> u64 {
+/// A zero, an infinity, a NaN, a subnormal, or a value at the edge of one.
+pub fn special(kind: Kind, random: &mut Random) -> u64 {
     let infinity = kind.nearest(f64::INFINITY);
     let fraction = kind.mask() >> (if kind == Kind::Single { 9 } else { 12 });
     match random.below(8) {
@@ -180,7 +174,7 @@ fn power(kind: Kind, random: &mut Random) -> u64 {
 
 /// The values of one vector: one flavour, a mixture, or one value all along,
 /// now and then with specials strewn in.
-fn vector_values(kind: Kind, pair: Pair, count: usize, random: &mut Random) -> Vec<u64> {
+pub fn vector_values(kind: Kind, pair: Pair, count: usize, random: &mut Random) -> Vec<u64> {
     let main = *random.choose(&FLAVOURS);
     let other = *random.choose(&FLAVOURS);
     let constant = random.one_in(8);

@@ -5,11 +5,13 @@ use std::fmt::Write;
 
 use crate::answer::{Answer, Call, Outcome};
 use crate::ask::{every, two, worn, Question};
+use crate::choices::{self, Place, SORTS, TURNS};
 use crate::columns::{column, shaped_column};
 use crate::driver::{split, Program, Running};
 use crate::floats::{Kind, KINDS};
 use crate::forge::forged;
 use crate::frames::{self, value_bytes, Reply, Request, MALFORMED};
+use crate::layout::MOST_IN_VECTOR;
 use crate::random::Random;
 use crate::read::{parse_header, read};
 use crate::read_vector::read_vector;
@@ -25,11 +27,13 @@ struct Case {
     faulty: bool,
     /// The width of the fields, where the page was made for it.
     width: Option<usize>,
+    /// What the other program's place has to be, where that is known before.
+    place: Option<Place>,
 }
 
 impl Case {
     fn of(origin: &str, request: Request) -> Case {
-        Case { origin: origin.into(), request, faulty: false, width: None }
+        Case { origin: origin.into(), request, faulty: false, width: None, place: None }
     }
 }
 
@@ -53,6 +57,7 @@ const PAGES: u64 = 2;
 const WORN: u64 = 3;
 const WIDTHS: u64 = 4;
 const ROOMS: u64 = 5;
+const CHOICES: u64 = 6;
 
 /// How many columns of each shape are written into every room.
 const SHAPED: usize = 12;
@@ -203,6 +208,43 @@ impl<'a> Comparison<'a> {
         self.finish()
     }
 
+    /// Compares the pairs chosen for vectors of every sort and many lengths,
+    /// and the pages that are written with them.
+    pub fn choices(&mut self, seed: u64) -> Result<(), String> {
+        for kind in KINDS {
+            for sort in SORTS {
+                for turn in 0..TURNS {
+                    for count in choices::lengths(turn) {
+                        let index = (kind.bits() * 100 + sort as usize) * 100 + turn;
+                        let index = (index * 100_000 + count) as u64;
+                        let mut random = Random::of_case(seed, CHOICES, index);
+                        let values = choices::vector(sort, kind, count, &mut random);
+                        let origin = format!("seed {seed}, {sort:?}, {count} values, turn {turn}");
+                        self.choose(&origin, kind, values, &mut random)?;
+                    }
+                }
+            }
+        }
+        self.finish()
+    }
+
+    /// Asks for the pair of a vector, and what the page is with it.
+    fn choose(
+        &mut self,
+        origin: &str,
+        kind: Kind,
+        values: Vec<u64>,
+        random: &mut Random,
+    ) -> Result<(), String> {
+        if (1..=MOST_IN_VECTOR).contains(&values.len()) {
+            self.tally.count_sights(kind, &choices::sights(kind, &values));
+            for (request, place) in choices::pages(kind, &values, random) {
+                self.put_case(Case { place: Some(place), ..Case::of(origin, request) })?;
+            }
+        }
+        self.put(origin, Request::Choose { kind, values })
+    }
+
     /// Asks for vectors of a page.
     fn ask(
         &mut self,
@@ -301,6 +343,12 @@ impl<'a> Comparison<'a> {
         if other != Some(&own.1) {
             self.report(&describe(case, own, other));
         }
+        if let (Some(place), Some(reply)) = (case.place, other) {
+            if !place.holds(reply.answer.place) {
+                let got = numbers(reply.answer);
+                self.report(&format!("{}: {got}, place not {place:?}", case.origin));
+            }
+        }
         match other {
             None => Err(format!("the program ended before its answer to {}", case.origin)),
             Some(reply) if reply.answer == MALFORMED => {
@@ -360,6 +408,7 @@ fn request_size(request: &Request) -> usize {
         Request::Write { kind, values, pairs, .. } => values.len() * kind.size() + pairs.len(),
         Request::Read { page, .. } | Request::Examine { page, .. } => page.len(),
         Request::ReadVector { page, .. } => page.len() + frames::NUMBER,
+        Request::Choose { kind, values } => values.len() * kind.size(),
     };
     frames::REQUEST_HEAD + lists + 2 * request.output_bytes()
 }
@@ -406,6 +455,9 @@ fn describe_inputs(text: &mut String, request: &Request) {
             let _ = writeln!(text, "  page     {}", hex(page));
             let _ = writeln!(text, "  number   {number}");
             let _ = writeln!(text, "  room     {} values", output.len());
+        }
+        Request::Choose { kind, values } => {
+            let _ = writeln!(text, "  values   {}", hex_values(*kind, values));
         }
     }
 }
@@ -487,6 +539,7 @@ fn good_requests() -> Vec<Request> {
     let (outcome, reply) = write.perform();
     let page = reply.output[..outcome.unwrap_or(0)].to_vec();
     vec![
+        Request::Choose { kind, values: values.clone() },
         Request::Measure { kind, s, values, pairs },
         write,
         Request::Read { kind, page: page.clone(), output: vec![0xA5A5_A5A5; 5] },
@@ -500,7 +553,7 @@ fn bad_requests(good: &[Request]) -> Vec<(String, Vec<u8>)> {
     for request in good {
         let bytes = request.to_bytes();
         let call = request.call().name();
-        for (at, byte) in [(0, 0), (0, 6), (0, 255), (1, 0), (1, 33), (1, 128), (3, 1), (3, 255)] {
+        for (at, byte) in [(0, 0), (0, 7), (0, 255), (1, 0), (1, 33), (1, 128), (3, 1), (3, 255)] {
             let mut changed = bytes.clone();
             changed[at] = byte;
             bad.push((format!("{call} with byte {at} as {byte}"), changed));
@@ -525,6 +578,7 @@ fn bad_lengths(request: &Request) -> Vec<(usize, usize)> {
         Request::Read { .. } => [frames::MOST_BYTES, 0, frames::MOST_VALUES],
         Request::Examine { .. } => [frames::MOST_BYTES, 0, 0],
         Request::ReadVector { .. } => [frames::MOST_BYTES, frames::NUMBER, frames::MOST_VALUES],
+        Request::Choose { .. } => [frames::MOST_VALUES, 0, 0],
     };
     let mut bad = Vec::new();
     for (at, most) in [4, 8, 12].into_iter().zip(most) {
@@ -545,6 +599,7 @@ fn requests_at_limits() -> Vec<(String, Request)> {
         let pairs = vec![0; frames::MOST_PAIRS];
         let page = vec![1; frames::MOST_BYTES];
         let note = |call: &str| format!("{call} at its limits, {}-bit", kind.bits());
+        requests.push((note("choose"), Request::Choose { kind, values: values.clone() }));
         let (v, p) = (values.clone(), pairs.clone());
         requests.push((note("measure"), Request::Measure { kind, s: 3, values: v, pairs: p }));
         let output = vec![0xA5; frames::MOST_BYTES];

@@ -13,6 +13,14 @@ pub enum Kind {
 
 pub const KINDS: [Kind; 2] = [Kind::Single, Kind::Double];
 
+/// A pair of exponent and factor that the rules allow: the factor is at most
+/// the exponent, and that at most E.
+#[derive(Clone, Copy, PartialEq, Eq, Debug)]
+pub struct Pair {
+    pub exponent: usize,
+    pub factor: usize,
+}
+
 /// 10^0 to 10^E, exact in their kind.
 pub const TENS_32: [f32; 11] = [1e0, 1e1, 1e2, 1e3, 1e4, 1e5, 1e6, 1e7, 1e8, 1e9, 1e10];
 pub const TENS_64: [f64; 19] = [

@@ -3,13 +3,14 @@
 //! A request: call, kind, s and a zero byte; three lengths A, B, C of 4 bytes
 //! each; then the values or the page, the pairs or the number of a vector,
 //! and the output as it is lent. An answer: three numbers of 8 bytes, then
-//! the output afterwards.
+//! the output afterwards, or the two bytes of a pair that was chosen.
 
 use std::io::{self, Read, Write};
 
 use crate::answer::{answer_of, Answer, Call, Outcome};
+use crate::choose::choose;
 use crate::examine::examine;
-use crate::floats::Kind;
+use crate::floats::{Kind, Pair};
 use crate::layout::{number, push_number};
 use crate::read::read;
 use crate::read_vector::read_vector;
@@ -26,6 +27,8 @@ pub const MOST_BYTES: usize = 400_000;
 pub const MOST_PAIRS: usize = 4_200;
 /// Bytes of a vector's number.
 pub const NUMBER: usize = 8;
+/// Bytes of a chosen pair.
+pub const PAIR: usize = 2;
 
 /// The answer to a request that breaks the shape.
 pub const MALFORMED: Answer = Answer { number: 255, vector: 0, place: 0 };
@@ -38,9 +41,11 @@ pub enum Request {
     Read { kind: Kind, page: Vec<u8>, output: Vec<u64> },
     Examine { kind: Kind, page: Vec<u8> },
     ReadVector { kind: Kind, page: Vec<u8>, number: u64, output: Vec<u64> },
+    Choose { kind: Kind, values: Vec<u64> },
 }
 
-/// What came of a call: the answer, and the bytes of the whole output.
+/// What came of a call: the answer, and the bytes of the whole output, or of
+/// the chosen pair.
 #[derive(Clone, PartialEq, Eq)]
 pub struct Reply {
     pub answer: Answer,
@@ -69,6 +74,7 @@ impl Request {
             Request::Read { .. } => Call::Read,
             Request::Examine { .. } => Call::Examine,
             Request::ReadVector { .. } => Call::ReadVector,
+            Request::Choose { .. } => Call::Choose,
         }
     }
 
@@ -78,11 +84,12 @@ impl Request {
             | Request::Write { kind, .. }
             | Request::Read { kind, .. }
             | Request::Examine { kind, .. }
-            | Request::ReadVector { kind, .. } => *kind,
+            | Request::ReadVector { kind, .. }
+            | Request::Choose { kind, .. } => *kind,
         }
     }
 
-    /// Bytes of the output in the answer.
+    /// Bytes in the answer behind its three numbers.
     pub fn output_bytes(&self) -> usize {
         match self {
             Request::Write { output, .. } => output.len(),
@@ -90,6 +97,7 @@ impl Request {
                 output.len() * kind.size()
             }
             Request::Measure { .. } | Request::Examine { .. } => 0,
+            Request::Choose { .. } => PAIR,
         }
     }
 
@@ -105,14 +113,18 @@ impl Request {
             }
             Request::Read { kind, page, output } => {
                 let lists: [&[u8]; 3] = [page, &[], &value_bytes(*kind, output)];
-                frame(3, *kind, unused(page), page.len(), output.len(), &lists)
+                frame(3, *kind, unused(page.len()), page.len(), output.len(), &lists)
             }
             Request::Examine { kind, page } => {
-                frame(4, *kind, unused(page), page.len(), 0, &[page, &[], &[]])
+                frame(4, *kind, unused(page.len()), page.len(), 0, &[page, &[], &[]])
             }
             Request::ReadVector { kind, page, number, output } => {
                 let lists: [&[u8]; 3] = [page, &number.to_le_bytes(), &value_bytes(*kind, output)];
-                frame(5, *kind, unused(page), page.len(), output.len(), &lists)
+                frame(5, *kind, unused(page.len()), page.len(), output.len(), &lists)
+            }
+            Request::Choose { kind, values } => {
+                let lists: [&[u8]; 3] = [&value_bytes(*kind, values), &[], &[]];
+                frame(6, *kind, unused(values.len()), values.len(), 0, &lists)
             }
         }
     }
@@ -139,6 +151,13 @@ impl Request {
                 let outcome = read_vector(*kind, page, *number, &mut output);
                 reply(outcome, value_bytes(*kind, &output))
             }
+            Request::Choose { kind, values } => {
+                let chosen = choose(*kind, values);
+                // A refusal's pair is 0, 0.
+                let pair = chosen.unwrap_or(Pair { exponent: 0, factor: 0 });
+                let bytes = vec![pair.exponent as u8, pair.factor as u8];
+                reply(chosen.map(|_| values.len()), bytes)
+            }
         }
     }
 }
@@ -148,8 +167,8 @@ fn reply(outcome: Outcome, output: Vec<u8>) -> (Outcome, Reply) {
 }
 
 /// The byte s where it isn't used: any byte will do, so it varies.
-fn unused(page: &[u8]) -> u8 {
-    page.len() as u8
+fn unused(length: usize) -> u8 {
+    length as u8
 }
 
 /// A frame of a call number, its lengths A and C, and the three lists; the
@@ -250,6 +269,7 @@ fn parse_head(head: &[u8]) -> Option<(Kind, [usize; 3])> {
         3 => ([MOST_BYTES, 0, MOST_VALUES], [a, 0, c * kind.size()]),
         4 => ([MOST_BYTES, 0, 0], [a, 0, 0]),
         5 if b == NUMBER => ([MOST_BYTES, NUMBER, MOST_VALUES], [a, b, c * kind.size()]),
+        6 => ([MOST_VALUES, 0, 0], [a * kind.size(), 0, 0]),
         _ => return None,
     };
     let within = a <= most[0] && b <= most[1] && c <= most[2];
@@ -270,9 +290,10 @@ fn build(call: u8, kind: Kind, s: u8, lists: &[Vec<u8>]) -> Request {
         }
         3 => Request::Read { kind, page: page(), output: output() },
         4 => Request::Examine { kind, page: page() },
-        _ => {
+        5 => {
             let number = number(&lists[1]);
             Request::ReadVector { kind, page: page(), number, output: output() }
         }
+        _ => Request::Choose { kind, values: values() },
     }
 }

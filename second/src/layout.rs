@@ -10,6 +10,8 @@ pub const OFFSET: usize = 4;
 pub const POSITION: usize = 2;
 /// The largest count of values in a page.
 pub const MOST_VALUES: usize = 16_384;
+/// The largest count of values in a vector: 2^10.
+pub const MOST_IN_VECTOR: usize = 1_024;
 
 /// Row 5's test.
 pub fn is_vector_size(s: u8) -> bool {

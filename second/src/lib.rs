@@ -1,7 +1,7 @@
 //! An independent second program for ALP pages, written from document 01
 //! (the specification of the build) and source document 004 alone; and, for
-//! `read_vector` and the sizes in `write`, from T-01 and T-03 of document 02
-//! (the changes requested).
+//! `read_vector`, the sizes in `write` and `choose`, from T-01, T-03 and T-04
+//! of document 02 (the changes requested).
 //!
 //! It is meant to be read next to document 01: every rule stands in one place
 //! and nothing is optimised. The parts:
@@ -9,16 +9,19 @@
 //! - `answer`: the table of refusals;
 //! - `floats`: the two kinds and the way between a value and a whole number;
 //! - `layout`: counts, sizes and bit packing of a page;
-//! - `write`, `read`, `examine`, `read_vector`: the calls;
+//! - `write`, `read`, `examine`, `read_vector`, `choose`: the calls;
 //! - `frames`: requests and answers as bytes, and the serving side;
 //! - `driver`: runs another program and talks to it in frames;
-//! - `random`, `columns`, `rooms`, `forge`, `widths`, `ask`: what the programs
-//!   are compared on;
-//! - `tally`: which refusals, widths and rooms were met, and which are missing;
+//! - `random`, `columns`, `rooms`, `forge`, `widths`, `ask`, `choices`: what
+//!   the programs are compared on;
+//! - `tally`: which refusals, widths, rooms and choices were met, and which are
+//!   missing;
 //! - `compare`: the comparison itself.
 
 pub mod answer;
 pub mod ask;
+pub mod choices;
+pub mod choose;
 pub mod columns;
 pub mod compare;
 pub mod driver;

@@ -1,7 +1,7 @@
 //! `second PROGRAM`: drives a program that answers frames over many columns
 //! and pages, compares every answer and every byte with this program's own,
-//! and fails if one differs or if a row of the table, a width or a room was
-//! never met.
+//! and fails if one differs or if a row of the table, a width, a room or what
+//! tells choosers apart was never met.
 
 use std::io::{self, BufReader};
 use std::path::PathBuf;
@@ -104,12 +104,13 @@ fn run(options: &Options) -> Result<bool, String> {
     for (turn, seed) in options.seeds.iter().enumerate() {
         let columns = share(options.columns, turn, options.seeds.len());
         let pages = share(options.pages, turn, options.seeds.len());
-        println!("seed     {seed}: {columns} columns, {pages} damaged or forged pages, small ones, every width, every room");
+        println!("seed     {seed}: {columns} columns, {pages} damaged or forged pages, small ones, every width, every room, choices");
         comparison.columns(*seed, columns)?;
         comparison.pages(*seed, pages)?;
         comparison.worn(*seed)?;
         comparison.widths(*seed)?;
         comparison.rooms(*seed)?;
+        comparison.choices(*seed)?;
     }
     println!("\n{}", comparison.tally.table());
 

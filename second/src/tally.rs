@@ -1,9 +1,10 @@
-//! Counts which answers were given by which call, at which widths and in which
-//! rooms, and says what was never met.
+//! Counts which answers were given by which call, at which widths, in which
+//! rooms and for which choices, and says what was never met.
 
 use std::fmt::Write;
 
 use crate::answer::{Call, Outcome, CALLS, TABLE};
+use crate::choices::{Sight, SIGHTS};
 use crate::floats::{Kind, KINDS};
 use crate::rooms::{Room, Shape, ROOMS, SHAPES};
 
@@ -24,6 +25,8 @@ pub struct Tally {
     widths: [[u64; WIDTHS]; KINDS.len()],
     /// How often each room was lent for a page of each shape.
     rooms: [[[u64; KINDS.len()]; SHAPES.len()]; ROOMS.len()],
+    /// How many vectors to choose for showed what.
+    sights: [[u64; KINDS.len()]; SIGHTS.len()],
 }
 
 /// The widths of the larger kind: 0 to 64.
@@ -34,7 +37,8 @@ impl Default for Tally {
         let refused = vec![Counts::default(); TABLE.len()];
         let (spared, widths) = ([0; KINDS.len()], [[0; WIDTHS]; KINDS.len()]);
         let rooms = [[[0; KINDS.len()]; SHAPES.len()]; ROOMS.len()];
-        Tally { done: Counts::default(), refused, spared, widths, rooms }
+        let sights = [[0; KINDS.len()]; SIGHTS.len()];
+        Tally { done: Counts::default(), refused, spared, widths, rooms, sights }
     }
 }
 
@@ -60,6 +64,25 @@ impl Tally {
 
     pub fn count_room(&mut self, kind: Kind, shape: Shape, room: Room) {
         self.rooms[room as usize][shape as usize][kind as usize] += 1;
+    }
+
+    pub fn count_sights(&mut self, kind: Kind, sights: &[Sight]) {
+        for sight in sights {
+            self.sights[*sight as usize][kind as usize] += 1;
+        }
+    }
+
+    /// Everything that no vector to choose for has shown.
+    fn missing_sights(&self) -> Vec<String> {
+        let mut missing = Vec::new();
+        for sight in SIGHTS {
+            for kind in KINDS {
+                if self.sights[sight as usize][kind as usize] == 0 {
+                    missing.push(format!("a choice: {}, {}-bit", sight.text(), kind.bits()));
+                }
+            }
+        }
+        missing
     }
 
     /// How many pages were read at each width that a kind has.
@@ -88,6 +111,7 @@ impl Tally {
     /// is counted.
     pub fn missing(&self) -> Vec<String> {
         let mut missing = self.missing_rooms();
+        missing.extend(self.missing_sights());
         for kind in KINDS.into_iter().filter(|kind| self.spared[*kind as usize] == 0) {
             missing.push(format!("a vector of a page that read refuses, {}-bit", kind.bits()));
         }
@@ -139,6 +163,18 @@ impl Tally {
             let _ = writeln!(text, "pages read at widths 0 to {most}, {most}-bit: {pages}");
         }
         text.push_str(&self.table_of_rooms());
+        text.push_str(&self.table_of_sights());
+        text
+    }
+
+    /// What the vectors to choose for showed: how often of 32-bit values, and
+    /// of 64-bit ones.
+    fn table_of_sights(&self) -> String {
+        let mut text = String::from("\nvectors to choose for, 32 and 64 bits\n");
+        for sight in SIGHTS {
+            let [single, double] = self.sights[sight as usize];
+            let _ = writeln!(text, "{:<36}{single:>8}{double:>8}", sight.text());
+        }
         text
     }
 

@@ -39,21 +39,25 @@ fn vector_sizes(kind: Kind, s: u8, values: &[u64], pairs: &[u8]) -> usize {
     vectors.map(|(values, pair)| vector_size(kind, values, pair[0], pair[1])).sum()
 }
 
-/// Bytes of one vector, from its values and not from what is written: a
-/// stand-in is the whole number of another value, so it makes no field wider;
-/// and of exceptions alone all fields are 0.
+/// Bytes of one vector, from its values and not from what is written.
 fn vector_size(kind: Kind, values: &[u64], exponent: u8, factor: u8) -> usize {
-    let wholes: Vec<i64> = values
-        .iter()
-        .filter_map(|value| kind.whole(*value, exponent.into(), factor.into()))
-        .collect();
+    let (width, exceptions) = cost(kind, values, exponent.into(), factor.into());
+    layout::vector_bytes(kind, values.len(), width, exceptions)
+}
+
+/// The width of a vector's fields and the count of its exceptions. A stand-in
+/// is the whole number of another value, so it makes no field wider; and of
+/// exceptions alone all fields are 0.
+pub fn cost(kind: Kind, values: &[u64], exponent: usize, factor: usize) -> (usize, usize) {
+    let wholes: Vec<i64> =
+        values.iter().filter_map(|value| kind.whole(*value, exponent, factor)).collect();
     let width = match (wholes.iter().min(), wholes.iter().max()) {
         (Some(least), Some(most)) => {
             layout::width_of((i128::from(*most) - i128::from(*least)) as u64)
         }
         _ => 0,
     };
-    layout::vector_bytes(kind, values.len(), width, values.len() - wholes.len())
+    (width, values.len() - wholes.len())
 }
 
 /// Rows 9 and 10, for the writer and the reader alike.

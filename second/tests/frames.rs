@@ -97,10 +97,29 @@ fn a_vectors_number_has_8_bytes_and_may_be_any() {
 }
 
 #[test]
+fn choosing_answers_the_pair() {
+    let choose = |values| Request::Choose { kind: Kind::Double, values }.to_bytes();
+    // 1.5 is 15 tenths; an empty vector is refused, with the pair 0, 0.
+    let good = choose(vec![0x3FF8_0000_0000_0000]);
+    let wanted =
+        [&[6, 64, 1, 0, 1, 0, 0, 0, 0, 0, 0, 0, 0, 0, 0, 0, 0, 0, 0, 0, 0, 0][..], &[0xF8, 0x3F]];
+    assert_eq!(good, wanted.concat());
+    let input = [good.clone(), choose(vec![])].concat();
+    let wanted = [&numbers(0, 0, 1)[..], &[1, 0], &numbers(31, 0, 0), &[0, 0]];
+    assert_eq!(said(&input), wanted.concat());
+    for at in [8, 12] {
+        let mut bad = good.clone();
+        bad[at] = 1;
+        bad.push(0);
+        assert_eq!(said(&bad), numbers(255, 0, 0), "a length at byte {at}");
+    }
+}
+
+#[test]
 fn what_breaks_the_shape_gets_255_and_ends() {
     let good = write_request().to_bytes();
     let no = numbers(255, 0, 0);
-    for (at, byte) in [(0, 0), (0, 6), (1, 31), (3, 1), (6, 1), (9, 255), (14, 255)] {
+    for (at, byte) in [(0, 0), (0, 7), (1, 31), (3, 1), (6, 1), (9, 255), (14, 255)] {
         let mut bad = good.clone();
         bad[at] = byte;
         bad.extend(&good);

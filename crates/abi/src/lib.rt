@@ -1,9 +1,10 @@
 // The public calls under the names that C and Rust link: thin, with the same promises. A slice passes as a pointer and then a length, the
-// answer by value as three 64-bit numbers. include/strahnuk.h and rust/strahnuk declare these names; nothing checks those declarations
-// against this file, so the boundary stays as small as this.
+// answer by value as three 64-bit numbers, and a choice as those and two bytes. include/strahnuk.h and rust/strahnuk declare these names;
+// nothing checks those declarations against this file, so the boundary stays as small as this.
 use rules::Answer;
+use rules::Choice;
 ghost use lib.Ieee.{binary32, binary64};
-ghost use Rattle.rules.specs.Calls.{Measured, Written, Read, ReadVector, Examined};
+ghost use Rattle.rules.specs.Calls.{Measured, Written, Read, ReadVector, Examined, Chosen};
 
 #[no_mangle]
 pub extern "C" fn alp_measure32(values: &[u32], s: u8, pairs: &[u8]) -> Answer
@@ -73,4 +74,18 @@ pub extern "C" fn alp_examine64(page: &[u8]) -> Answer
     ensures { λ r. ⌜ Examined binary64 (now (page .entry)) r ⌝ }
 {
     examiner::examine64(page)
+}
+
+#[no_mangle]
+pub extern "C" fn alp_choose32(values: &[u32]) -> Choice
+    ensures { λ r. ⌜ Chosen binary32 (now (values .entry)) r ⌝ }
+{
+    chooser::choose32(values)
+}
+
+#[no_mangle]
+pub extern "C" fn alp_choose64(values: &[u64]) -> Choice
+    ensures { λ r. ⌜ Chosen binary64 (now (values .entry)) r ⌝ }
+{
+    chooser::choose64(values)
 }

@@ -1,9 +1,10 @@
-// A request's first 16 bytes, and an answer's 24.
+// A request's first 16 bytes, an answer's 24, and the pair behind an answer.
 use bits::numbers::read_u32;
 use bits::numbers::store_u64;
 use libc::STDIN_FILENO;
 use libc::STDOUT_FILENO;
 use rules::Answer;
+use rules::Choice;
 
 // The call, the kind, s, and the three lengths.
 pub struct Request {
@@ -35,7 +36,7 @@ fn known(call: u8, kind: u8, zero: u8) -> bool {
     if call < 1 {
         return false;
     }
-    if 5 < call {
+    if 6 < call {
         return false;
     }
     if zero != 0 {
@@ -93,4 +94,10 @@ pub fn answer(a: Answer) {
     store_u64(&mut bytes, 8, a.vector);
     store_u64(&mut bytes, 16, a.place);
     give(&bytes);
+}
+
+pub fn choice(c: Choice) {
+    let pair: [u8; 2] = [c.exponent, c.factor];
+    answer(c.answer);
+    give(&pair);
 }

@@ -5,6 +5,7 @@ use crate::frames::MOST_VALUES;
 use crate::frames::NUMBER_BYTES;
 use crate::frames::Request;
 use crate::frames::answer;
+use crate::frames::choice;
 use crate::frames::fill;
 use crate::frames::give;
 use crate::rooms::number_room;
@@ -15,6 +16,8 @@ use crate::rooms::raw_room64;
 use crate::rooms::values_room32;
 use crate::rooms::values_room64;
 use bits::numbers::read_u64;
+use chooser::choose32;
+use chooser::choose64;
 use columns::bytes32;
 use columns::bytes64;
 use columns::words32;
@@ -49,7 +52,8 @@ pub fn serve(r: Request) -> bool {
         2 => serve_column(r, MOST_BYTES),
         3 => serve_read(r, 0),
         4 => serve_examine(r),
-        _ => serve_read(r, NUMBER_BYTES),
+        5 => serve_read(r, NUMBER_BYTES),
+        _ => serve_choose(r),
     }
 }
 
@@ -295,5 +299,63 @@ fn examine_with(kind: u8, page: &mut [u8]) -> bool {
     } else {
         answer(examine64(page));
     }
+    true
+}
+
+// ---- choose: the values of a vector
+
+fn serve_choose(r: Request) -> bool {
+    let n = r.a;
+    if MOST_VALUES < n {
+        return bad();
+    }
+    if r.b != 0 {
+        return bad();
+    }
+    if r.c != 0 {
+        return bad();
+    }
+    if r.kind == 32 {
+        vector32(n)
+    } else {
+        vector64(n)
+    }
+}
+
+fn vector32(n: usize) -> bool
+    requires { ⌜ n ≤ 16400 ⌝ }
+{
+    let mut raw = raw_room32();
+    let mut values = values_room32();
+    choose_with32(&mut raw[0..4 * n], &mut values[0..n])
+}
+
+fn vector64(n: usize) -> bool
+    requires { ⌜ n ≤ 16400 ⌝ }
+{
+    let mut raw = raw_room64();
+    let mut values = values_room64();
+    choose_with64(&mut raw[0..8 * n], &mut values[0..n])
+}
+
+fn choose_with32(raw: &mut [u8], values: &mut [u32]) -> bool
+    requires { ⌜ 4 * length (now values) ≤ length (now raw) ⌝ }
+{
+    if !fill(raw) {
+        return bad();
+    }
+    words32(raw, values);
+    choice(choose32(values));
+    true
+}
+
+fn choose_with64(raw: &mut [u8], values: &mut [u64]) -> bool
+    requires { ⌜ 8 * length (now values) ≤ length (now raw) ⌝ }
+{
+    if !fill(raw) {
+        return bad();
+    }
+    words64(raw, values);
+    choice(choose64(values));
     true
 }
