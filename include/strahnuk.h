@@ -1,5 +1,5 @@
 /*
- * The public calls of Strahnuk for C99 and C++: pages of ALP-encoded floats, written, read and examined.
+ * The public calls of Strahnuk for C99 and C++: pages of ALP-encoded floats, written, read and examined, and the pairs to write them with.
  *
  * Link with the archive that `rt staticlib abi` makes, target/staticlib/libabi.a. It is for x86-64 under the System V calling convention
  * (Linux), and needs nothing but memset.
@@ -57,6 +57,13 @@ typedef struct strahnuk_answer {
     uint64_t place;
 } strahnuk_answer;
 
+/* What choosing answers: the answer as of every call, and the pair, which is 0 and 0 where it refuses. */
+typedef struct strahnuk_choice {
+    strahnuk_answer answer;
+    uint8_t exponent;
+    uint8_t factor;
+} strahnuk_choice;
+
 /* The numbers. After each: given when, by which calls, and what vector and place are if they are not 0. */
 enum strahnuk_row {
     /* nothing is refused; all calls */
@@ -69,18 +76,18 @@ enum strahnuk_row {
     STRAHNUK_MODE = 3,
     /* the integer encoding is not 0; read, read vector, examine */
     STRAHNUK_INTEGER_ENCODING = 4,
-    /* s is below 3 or above 10; all calls */
+    /* s is below 3 or above 10; all calls but choose */
     STRAHNUK_VECTOR_SIZE = 5,
-    /* more than 16,384 values; all calls */
+    /* more than 16,384 values; all calls but choose */
     STRAHNUK_TOO_MANY_VALUES = 6,
     /* the offsets, a vector's metadata or its data run past the end; read, read vector, examine; vector: 0 for the offsets, else that
        vector */
     STRAHNUK_PAST_END = 7,
     /* an offset differs from the layout's; read, read vector, examine; vector: that offset's, but for read vector the one asked for */
     STRAHNUK_OFFSET = 8,
-    /* the exponent is above the kind's largest; all calls; vector: that vector */
+    /* the exponent is above the kind's largest; all calls but choose; vector: that vector */
     STRAHNUK_EXPONENT = 9,
-    /* the factor is above the exponent; all calls; vector: that vector */
+    /* the factor is above the exponent; all calls but choose; vector: that vector */
     STRAHNUK_FACTOR = 10,
     /* more exceptions than values in the vector; read, read vector, examine; vector: that vector */
     STRAHNUK_TOO_MANY_EXCEPTIONS = 11,
@@ -107,7 +114,9 @@ enum strahnuk_row {
     /* the frame is not the smallest, or the width is not the fewest bits; examine; vector: that vector */
     STRAHNUK_FRAME_OR_WIDTH = 24,
     /* there is no vector of that number; read vector */
-    STRAHNUK_NO_SUCH_VECTOR = 30
+    STRAHNUK_NO_SUCH_VECTOR = 30,
+    /* no values, or more than 1,024; choose */
+    STRAHNUK_NOT_ONE_VECTOR = 31
 };
 
 /*
@@ -159,6 +168,17 @@ strahnuk_answer alp_read_vector64(const uint8_t *page, size_t page_length, size_
 strahnuk_answer alp_examine32(const uint8_t *page, size_t page_length);
 strahnuk_answer alp_examine64(const uint8_t *page, size_t page_length);
 
+/*
+ * Choose: the pair that gives one vector of these values the fewest bytes; of several, the first, exponent rising, then factor rising. Done's
+ * place: the count of values. Nothing is written. The two bytes go into `pairs` as they are: who chooses for each 2^s values of a column
+ * writes its shortest page of that s.
+ * Every pair is tried, 66 (32-bit) or 190 (64-bit), and left once it can't be better. Of 64-bit values a full vector takes some 400 instructions
+ * a value where all are the same, 2,800 where they are prices, 6,000 where they are random bits; to write prices takes some 150.
+ * Row: 31 if there are no values, or more than 1 << STRAHNUK_LARGEST_S.
+ */
+strahnuk_choice alp_choose32(const uint32_t *values, size_t values_length);
+strahnuk_choice alp_choose64(const uint64_t *values, size_t values_length);
+
 #ifdef __cplusplus
 }
 #endif
@@ -191,6 +211,7 @@ static inline const char *strahnuk_sentence(uint64_t number)
     case STRAHNUK_STAND_IN: return "a listed position does not hold the stand-in";
     case STRAHNUK_FRAME_OR_WIDTH: return "the frame is not the smallest, or the width is not the fewest bits";
     case STRAHNUK_NO_SUCH_VECTOR: return "there is no vector of that number";
+    case STRAHNUK_NOT_ONE_VECTOR: return "no values, or more than 1,024";
     default: return "not a row of the table";
     }
 }

@@ -1,7 +1,8 @@
 /*
  * Links the archive from C and tells one story: recorded columns of both kinds are measured, written, examined and read, whole and by the
- * vector, refusals come where they should, and the helpers for the floating-point environment do their work. Every byte and every bit is
- * compared with what stands written here. The first thing that fails is named on standard error and ends the program with status 1.
+ * vector, pairs are chosen for them, refusals come where they should, and the helpers for the floating-point environment do their work.
+ * Every byte and every bit is compared with what stands written here. The first thing that fails is named on standard error and ends the
+ * program with status 1.
  *
  * The Rust program rust/strahnuk/examples/recording.rs tells the same story in the same words; link/run compares the two.
  */
@@ -21,18 +22,20 @@
 /* The longest column here, and the most vectors. */
 #define MOST_VALUES 11
 #define MOST_VECTORS 2
+#define MOST_IN_VECTOR (1 << STRAHNUK_LARGEST_S)
 
 static unsigned shown; /* how many lines were printed; a story that stops short is told from a whole one by the count */
 
 /* ---- what is recorded ---- */
 
-/* A column, its settings and its page. The values of the 32-bit kind stand here in 64 bits too, so that both kinds share the story. */
+/* A column, its settings, the pairs that are chosen for it, and its page. The values of the 32-bit kind stand here in 64 bits too, so that
+   both kinds share the story. */
 typedef struct recording {
     const char *name;
     int bits;
     uint8_t s;
     size_t vectors;
-    uint8_t pairs[2 * MOST_VECTORS];
+    uint8_t pairs[2 * MOST_VECTORS], chosen[2 * MOST_VECTORS];
     size_t count;
     uint64_t values[MOST_VALUES];
     size_t length;
@@ -47,34 +50,34 @@ typedef struct recording {
 #endif
 
 static const recording recordings[] = {
-    {"R1", 32, 10, 1, {2, 0}, 4, {0x3F9D70A4, 0x4091EB85, 0x40FC7AE1, 0x3DF5C28F}, 26,
+    {"R1", 32, 10, 1, {2, 0}, {2, 0}, 4, {0x3F9D70A4, 0x4091EB85, 0x40FC7AE1, 0x3DF5C28F}, 26,
      {0x01, 0x00, 0x00, 0x0A, 0x04, 0x00, 0x00, 0x00, 0x04, 0x00, 0x00, 0x00, 0x02, 0x00, 0x00, 0x00, 0x0C, 0x00, 0x00, 0x00, 0x0A,
       0x6F, 0xF0, 0x96, 0x30, 0x00}},
-    {"R2", 32, 10, 1, {1, 0}, 4, {0x3FC00000, 0x7FC00000, 0x40200000, 0x3EAAAAAB}, 35,
+    {"R2", 32, 10, 1, {1, 0}, {1, 0}, 4, {0x3FC00000, 0x7FC00000, 0x40200000, 0x3EAAAAAB}, 35,
      {0x01, 0x00, 0x00, 0x0A, 0x04, 0x00, 0x00, 0x00, 0x04, 0x00, 0x00, 0x00, 0x01, 0x00, 0x02, 0x00, 0x0F, 0x00, 0x00, 0x00, 0x04,
       0x00, 0x0A, 0x01, 0x00, 0x03, 0x00, 0x00, 0x00, 0xC0, 0x7F, 0xAB, 0xAA, 0xAA, LAST_OF_R2}},
     /* negative zero, a NaN with a payload, both infinities, 1.5, the smallest subnormal: all but 1.5 are exceptions */
-    {"specials", 32, 3, 1, {1, 0}, 6, {0x80000000, 0x7FA12345, 0x7F800000, 0xFF800000, 0x3FC00000, 0x00000001}, 51,
+    {"specials", 32, 3, 1, {1, 0}, {1, 0}, 6, {0x80000000, 0x7FA12345, 0x7F800000, 0xFF800000, 0x3FC00000, 0x00000001}, 51,
      {0x01, 0x00, 0x00, 0x03, 0x06, 0x00, 0x00, 0x00, 0x04, 0x00, 0x00, 0x00, 0x01, 0x00, 0x05, 0x00, 0x0F, 0x00, 0x00, 0x00, 0x00,
       0x00, 0x00, 0x01, 0x00, 0x02, 0x00, 0x03, 0x00, 0x05, 0x00, 0x00, 0x00, 0x00, 0x80, 0x45, 0x23, 0xA1, 0x7F, 0x00, 0x00, 0x80,
       0x7F, 0x00, 0x00, 0x80, 0xFF, 0x01, 0x00, 0x00, 0x00}},
-    /* 0.0 to 5.0 by halves, but for a negative zero in the second vector */
-    {"halves", 32, 3, 2, {1, 0, 1, 0}, 11,
+    /* 0.0 to 5.0 by halves, but for a negative zero in the second vector, whose other values are whole */
+    {"halves", 32, 3, 2, {1, 0, 1, 0}, {1, 0, 0, 0}, 11,
      {0x00000000, 0x3F000000, 0x3F800000, 0x3FC00000, 0x40000000, 0x40200000, 0x40400000, 0x40600000, 0x40800000, 0x80000000,
       0x40A00000}, 48,
      {0x01, 0x00, 0x00, 0x03, 0x0B, 0x00, 0x00, 0x00, 0x08, 0x00, 0x00, 0x00, 0x17, 0x00, 0x00, 0x00, 0x01, 0x00, 0x00, 0x00, 0x00,
       0x00, 0x00, 0x00, 0x06, 0x40, 0xA1, 0x3C, 0x54, 0xE6, 0x8D, 0x01, 0x00, 0x01, 0x00, 0x28, 0x00, 0x00, 0x00, 0x04, 0x00, 0x0A,
       0x01, 0x00, 0x00, 0x00, 0x00, 0x80}},
-    {"R7", 64, 10, 1, {1, 0}, 1, {0x3FF8000000000000}, 25,
+    {"R7", 64, 10, 1, {1, 0}, {1, 0}, 1, {0x3FF8000000000000}, 25,
      {0x01, 0x00, 0x00, 0x0A, 0x01, 0x00, 0x00, 0x00, 0x04, 0x00, 0x00, 0x00, 0x01, 0x00, 0x00, 0x00, 0x0F, 0x00, 0x00, 0x00, 0x00,
       0x00, 0x00, 0x00, 0x00}},
-    {"specials", 64, 3, 1, {1, 0}, 6,
+    {"specials", 64, 3, 1, {1, 0}, {1, 0}, 6,
      {0x8000000000000000, 0xFFF123456789ABCD, 0x7FF0000000000000, 0xFFF0000000000000, 0x3FF8000000000000, 0x0000000000000001}, 75,
      {0x01, 0x00, 0x00, 0x03, 0x06, 0x00, 0x00, 0x00, 0x04, 0x00, 0x00, 0x00, 0x01, 0x00, 0x05, 0x00, 0x0F, 0x00, 0x00, 0x00, 0x00,
       0x00, 0x00, 0x00, 0x00, 0x00, 0x00, 0x01, 0x00, 0x02, 0x00, 0x03, 0x00, 0x05, 0x00, 0x00, 0x00, 0x00, 0x00, 0x00, 0x00, 0x00,
       0x80, 0xCD, 0xAB, 0x89, 0x67, 0x45, 0x23, 0xF1, 0xFF, 0x00, 0x00, 0x00, 0x00, 0x00, 0x00, 0xF0, 0x7F, 0x00, 0x00, 0x00, 0x00,
       0x00, 0x00, 0xF0, 0xFF, 0x01, 0x00, 0x00, 0x00, 0x00, 0x00, 0x00, 0x00}},
-    {"halves", 64, 3, 2, {1, 0, 1, 0}, 11,
+    {"halves", 64, 3, 2, {1, 0, 1, 0}, {1, 0, 0, 0}, 11,
      {0x0000000000000000, 0x3FE0000000000000, 0x3FF0000000000000, 0x3FF8000000000000, 0x4000000000000000, 0x4004000000000000,
       0x4008000000000000, 0x400C000000000000, 0x4010000000000000, 0x8000000000000000, 0x4014000000000000}, 60,
      {0x01, 0x00, 0x00, 0x03, 0x0B, 0x00, 0x00, 0x00, 0x08, 0x00, 0x00, 0x00, 0x1B, 0x00, 0x00, 0x00, 0x01, 0x00, 0x00, 0x00, 0x00,
@@ -145,6 +148,26 @@ static strahnuk_answer written(const recording *r, uint8_t *out, size_t length)
     narrow(r, values);
     return r->bits == 32 ? alp_write32(values, r->count, r->s, r->pairs, 2 * r->vectors, out, length)
                          : alp_write64(r->values, r->count, r->s, r->pairs, 2 * r->vectors, out, length);
+}
+
+/* The values of the vector of this number: where they begin, and how many they are. */
+static size_t first_of(const recording *r, size_t number)
+{
+    return number << r->s;
+}
+
+static size_t count_of(const recording *r, size_t number)
+{
+    const size_t left = r->count - first_of(r, number), full = (size_t)1 << r->s;
+    return left < full ? left : full;
+}
+
+static strahnuk_choice chosen(const recording *r, size_t number)
+{
+    uint32_t values[MOST_VALUES];
+    narrow(r, values);
+    return r->bits == 32 ? alp_choose32(values + first_of(r, number), count_of(r, number))
+                         : alp_choose64(r->values + first_of(r, number), count_of(r, number));
 }
 
 static strahnuk_answer examined(const recording *r, const uint8_t *page, size_t length)
@@ -270,8 +293,7 @@ static void tell_read(const recording *r, const uint8_t *page)
 static void tell_vector(const recording *r, const uint8_t *page, size_t number)
 {
     uint8_t changed[ROOM];
-    const size_t full = (size_t)1 << r->s, first = number * full, left = r->count - first, count = left < full ? left : full;
-    const size_t last = number + 1 == r->vectors;
+    const size_t first = first_of(r, number), count = count_of(r, number), last = number + 1 == r->vectors;
     expect_values(r, page, &number, first, count, "read vector");
     show_vector(r, number, count, "every bit comes back, and what lies past it stays");
     expect_unread(r, page, r->length, &number, count - 1, STRAHNUK_OUTPUT_TOO_SHORT, 0, "read vector with room one value short");
@@ -298,6 +320,27 @@ static void tell_vectors(const recording *r, const uint8_t *page)
     show(r, "30, there is no vector of that number, behind the last; the output stays");
 }
 
+/* Each pair is the one that stands written here, and the page with the chosen ones is no longer. */
+static void tell_chosen(const recording *r)
+{
+    recording best = *r;
+    char line[80];
+    size_t i;
+    strahnuk_answer length;
+    for (i = 0; i < r->vectors; i++) {
+        const strahnuk_choice choice = chosen(r, i);
+        expect_answer(choice.answer, STRAHNUK_DONE, 0, count_of(r, i), r, "choose");
+        best.pairs[2 * i] = choice.exponent, best.pairs[2 * i + 1] = choice.factor;
+        snprintf(line, sizeof line, "exponent %u and factor %u are chosen", choice.exponent, choice.factor);
+        show_vector(r, i, count_of(r, i), line);
+    }
+    expect(memcmp(best.pairs, r->chosen, 2 * r->vectors) == 0, r, "another pair is chosen");
+    length = measured(&best);
+    expect(length.number == STRAHNUK_DONE && length.place <= r->length, r, "the page with the chosen pairs is longer");
+    snprintf(line, sizeof line, "with the chosen pairs the page has %lu bytes", (unsigned long)length.place);
+    show(r, line);
+}
+
 static void tell_refused(const recording *r, const uint8_t *page)
 {
     uint8_t longer[ROOM];
@@ -315,7 +358,7 @@ static void tell_refused(const recording *r, const uint8_t *page)
 static void tell_empty(int bits)
 {
     static const uint8_t header[8] = {0x01, 0x00, 0x00, 0x0A, 0x00, 0x00, 0x00, 0x00};
-    recording none = {"nothing", 0, 10, 0, {0}, 0, {0}, 0, {0}};
+    recording none = {"nothing", 0, 10, 0, {0}, {0}, 0, {0}, 0, {0}};
     uint8_t page[ROOM];
     none.bits = bits;
     memset(page, UNTOUCHED_BYTE, ROOM);
@@ -343,6 +386,25 @@ static void tell_empty(int bits)
     show(&none, "1, fewer than 8 bytes");
 }
 
+/* No values, and one more than a vector has. */
+static void tell_unchosen(int bits)
+{
+    static const uint32_t zeros32[MOST_IN_VECTOR + 1];
+    static const uint64_t zeros64[MOST_IN_VECTOR + 1];
+    static const size_t counts[] = {0, MOST_IN_VECTOR + 1, MOST_IN_VECTOR};
+    recording zeros = {"zeros", 0, 10, 0, {0}, {0}, 0, {0}, 0, {0}};
+    size_t i;
+    zeros.bits = bits;
+    for (i = 0; i < COUNT(counts); i++) {
+        const strahnuk_choice choice = bits == 32 ? alp_choose32(counts[i] ? zeros32 : NULL, counts[i])
+                                                  : alp_choose64(counts[i] ? zeros64 : NULL, counts[i]);
+        const int done = counts[i] == MOST_IN_VECTOR;
+        expect_answer(choice.answer, done ? STRAHNUK_DONE : STRAHNUK_NOT_ONE_VECTOR, 0, done ? counts[i] : 0, &zeros, "choose");
+        expect(choice.exponent == 0 && choice.factor == 0, &zeros, "the pair is not 0, 0");
+    }
+    show(&zeros, "31, no values, or more than 1,024, when choosing; of 1,024 the pair is 0, 0");
+}
+
 /* The float nearest to 0.1 lies above it, so 0.1 x 10 is 1 to nearest and more upward. `volatile`: the processor multiplies here. */
 static int rounds_upward(void)
 {
@@ -356,12 +418,14 @@ static void tell_floats(const recording *r)
     uint64_t values[COUNT(hundredths)], back[COUNT(hundredths)], alone[COUNT(hundredths)];
     uint8_t plain[ROOM], upward[ROOM];
     strahnuk_answer first, second, third, fourth;
+    strahnuk_choice plainly, fifth;
     int rounding, traps;
     uint32_t was;
     memcpy(values, hundredths, sizeof values);
     memset(plain, UNTOUCHED_BYTE, ROOM);
     memset(upward, UNTOUCHED_BYTE, ROOM);
     first = alp_write64(values, COUNT(values), 3, r->pairs, 2, plain, ROOM);
+    plainly = alp_choose64(values, COUNT(values));
 
     expect(!rounds_upward(), r, "the program does not start with rounding to nearest");
     expect(fesetround(FE_UPWARD) == 0 && rounds_upward(), r, "upward rounding can't be set");
@@ -371,6 +435,7 @@ static void tell_floats(const recording *r)
     second = alp_write64(values, COUNT(values), 3, r->pairs, 2, upward, ROOM);
     third = alp_read64(upward, (size_t)second.place, back, COUNT(back));
     fourth = alp_read_vector64(upward, (size_t)second.place, 0, alone, COUNT(alone));
+    fifth = alp_choose64(values, COUNT(values));
     strahnuk_floats_restore(was);
     rounding = fegetround();
     traps = fegetexcept();
@@ -383,6 +448,8 @@ static void tell_floats(const recording *r)
     expect(memcmp(plain, upward, ROOM) == 0, r, "the pages differ");
     expect_answer(third, STRAHNUK_DONE, 0, COUNT(values), r, "read");
     expect_answer(fourth, STRAHNUK_DONE, 0, COUNT(values), r, "read vector");
+    expect_answer(fifth.answer, STRAHNUK_DONE, 0, COUNT(values), r, "choose");
+    expect(fifth.exponent == plainly.exponent && fifth.factor == plainly.factor, r, "another pair is chosen");
     expect(memcmp(values, back, sizeof values) == 0 && memcmp(values, alone, sizeof values) == 0, r, "a value comes back with other bits");
     show(r, "upward rounding and traps of the host change no byte, and stand afterwards");
 }
@@ -401,7 +468,7 @@ static void tell_sentences(void)
 
 int main(void)
 {
-    static const recording floats = {"floats", 64, 3, 1, {2, 0}, 0, {0}, 0, {0}};
+    static const recording floats = {"floats", 64, 3, 1, {2, 0}, {2, 0}, 0, {0}, 0, {0}};
     uint8_t page[ROOM];
     size_t i;
     for (i = 0; i < COUNT(recordings); i++) {
@@ -409,10 +476,13 @@ int main(void)
         tell_rooms(&recordings[i], page);
         tell_read(&recordings[i], page);
         tell_vectors(&recordings[i], page);
+        tell_chosen(&recordings[i]);
         tell_refused(&recordings[i], page);
     }
     tell_empty(32);
     tell_empty(64);
+    tell_unchosen(32);
+    tell_unchosen(64);
     tell_floats(&floats);
     tell_sentences();
     printf("%u things shown\n", shown);

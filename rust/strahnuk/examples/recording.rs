@@ -1,17 +1,18 @@
 //! Tells the story of link/recording.c through the wrapper, in the same words: recorded columns of both kinds are measured, written,
-//! examined and read, whole and by the vector, refusals come where they should, and the host's floating-point environment changes nothing.
-//! Every byte and every bit is compared with what stands written here; the first thing that fails ends the program. link/run compares the
-//! two programs' lines.
+//! examined and read, whole and by the vector, pairs are chosen for them, refusals come where they should, and the host's floating-point
+//! environment changes nothing. Every byte and every bit is compared with what stands written here; the first thing that fails ends the
+//! program. link/run compares the two programs' lines.
 use std::arch::asm;
 use std::fmt::Debug;
 use strahnuk::*;
 
-/// A column, its settings and its page, as hexadecimal digits.
+/// A column, its settings, the pairs that are chosen for it, and its page, as hexadecimal digits.
 struct Recording<B> {
     name: &'static str,
     s: u8,
     /// One for each vector.
     pairs: Vec<Pair>,
+    chosen: Vec<Pair>,
     values: Vec<B>,
     page: &'static str,
 }
@@ -29,6 +30,8 @@ struct Kind<B> {
     read_into: fn(&[u8], &mut [B]) -> Outcome,
     read_vector_into: fn(&[u8], usize, &mut [B]) -> Outcome,
     examine: fn(&[u8]) -> Outcome,
+    choose: fn(&[B]) -> Result<Pair, Refusal>,
+    choose_pairs: fn(&[B], u8) -> Result<Vec<Pair>, Refusal>,
 }
 
 const SINGLE: Kind<u32> = Kind {
@@ -40,6 +43,8 @@ const SINGLE: Kind<u32> = Kind {
     read_into: read_into32,
     read_vector_into: read_vector_into32,
     examine: examine32,
+    choose: choose32,
+    choose_pairs: choose_pairs32,
 };
 
 const DOUBLE: Kind<u64> = Kind {
@@ -51,6 +56,8 @@ const DOUBLE: Kind<u64> = Kind {
     read_into: read_into64,
     read_vector_into: read_vector_into64,
     examine: examine64,
+    choose: choose64,
+    choose_pairs: choose_pairs64,
 };
 
 /// More than any page or column here needs, so that there is something behind each that must stay as it came.
@@ -134,11 +141,12 @@ impl Teller {
         self.tell_rooms(kind, recording, &page);
         self.tell_read(kind, recording, &page);
         self.tell_vectors(kind, recording, &page);
+        self.tell_chosen(kind, recording, &page);
         self.tell_refused(kind, recording, &page);
     }
 
     fn tell_written<B: Copy>(&mut self, kind: &Kind<B>, recording: &Recording<B>) -> Vec<u8> {
-        let Recording { name, s, ref pairs, ref values, page } = *recording;
+        let Recording { name, s, ref pairs, ref values, page, .. } = *recording;
         let limit = kind.upper_limit(recording);
         let mut out = vec![UNTOUCHED; ROOM];
         let length = (kind.write_into)(values, s, pairs, &mut out).expect(name);
@@ -264,6 +272,23 @@ impl Teller {
         );
     }
 
+    /// Each pair is the one that stands written here, and the page with the chosen ones is no longer.
+    fn tell_chosen<B: Copy>(&mut self, kind: &Kind<B>, recording: &Recording<B>, page: &[u8]) {
+        let Recording { name, s, ref chosen, ref values, .. } = *recording;
+        for (number, stretch) in values.chunks(1 << s).enumerate() {
+            let pair = (kind.choose)(stretch).expect(name);
+            assert_eq!(pair, chosen[number], "{}: another pair is chosen", name);
+            let Pair { exponent, factor } = pair;
+            let line = format!("exponent {} and factor {} are chosen", exponent, factor);
+            self.show_vector(name, kind.bits, number, stretch.len(), &line);
+        }
+        assert_eq!((kind.choose_pairs)(values, s).as_ref(), Ok(chosen), "{}: choose", name);
+        let length = (kind.measure)(values, s, chosen).expect(name);
+        assert!(length <= page.len(), "{}: the page with the chosen pairs is longer", name);
+        let line = format!("with the chosen pairs the page has {} bytes", length);
+        self.show(name, kind.bits, &line);
+    }
+
     fn tell_refused<B: Copy + PartialEq + Debug>(
         &mut self,
         kind: &Kind<B>,
@@ -316,16 +341,32 @@ impl Teller {
         self.show("nothing", kind.bits, "1, fewer than 8 bytes");
     }
 
+    /// No values, and one more than a vector has.
+    fn tell_unchosen<B: Copy + Default>(&mut self, kind: &Kind<B>) {
+        let zeros = vec![B::default(); MOST_IN_VECTOR + 1];
+        let expected = Refusal { row: Row::NotOneVector, vector: 0, place: 0 };
+        assert_eq!((kind.choose)(&[]), Err(expected));
+        assert_eq!((kind.choose)(&zeros), Err(expected));
+        assert_eq!((kind.choose)(&zeros[1..]), Ok(Pair::default()));
+        self.show(
+            "zeros",
+            kind.bits,
+            "31, no values, or more than 1,024, when choosing; of 1,024 the pair is 0, 0",
+        );
+    }
+
     fn tell_floats(&mut self) {
         const UPWARD_WITH_TRAPS: u32 = 0x4000;
         let column = [0.1, 0.7, 1.23, 4.56, 7.89, 0.29, 1.1, 2.2].map(f64::to_bits);
         let pairs = [Pair { exponent: 2, factor: 0 }];
         let (mut page, mut back, mut alone) = ([UNTOUCHED; ROOM], [0; 8], [0; 8]);
         let plain = write64(&column, 3, &pairs).expect("floats");
+        let plainly = choose64(&column).expect("floats");
         let was = exchange_mxcsr(UPWARD_WITH_TRAPS);
         let written = write_into64(&column, 3, &pairs, &mut page);
         let read = read_into64(&page[..written.unwrap_or(0)], &mut back);
         let vector = read_vector_into64(&page[..written.unwrap_or(0)], 0, &mut alone);
+        let chosen = choose64(&column);
         let left = exchange_mxcsr(was);
         assert_eq!(
             left, UPWARD_WITH_TRAPS,
@@ -334,6 +375,7 @@ impl Teller {
         assert_eq!(written, Ok(plain.len()));
         assert_eq!(page[..plain.len()], plain, "the pages differ");
         assert_eq!((read, vector), (Ok(column.len()), Ok(column.len())));
+        assert_eq!(chosen, Ok(plainly), "another pair is chosen");
         assert_eq!((back, alone), (column, column), "a value comes back with other bits");
         self.show(
             "floats",
@@ -362,7 +404,7 @@ fn exchange_mxcsr(value: u32) -> u32 {
     was
 }
 
-/// 0.0 to 5.0 by halves, but for a negative zero in the second of two vectors.
+/// 0.0 to 5.0 by halves, but for a negative zero in the second of two vectors, whose other values are whole.
 const HALVES: [f32; 11] = [0.0, 0.5, 1.0, 1.5, 2.0, 2.5, 3.0, 3.5, 4.0, -0.0, 5.0];
 
 /// R1, R2; negative zero, a NaN with a payload, both infinities, 1.5 and the smallest subnormal, all but 1.5 exceptions; and halves.
@@ -372,6 +414,7 @@ fn singles() -> [Recording<u32>; 4] {
             name: "R1",
             s: 10,
             pairs: vec![Pair { exponent: 2, factor: 0 }],
+            chosen: vec![Pair { exponent: 2, factor: 0 }],
             values: [1.23_f32, 4.56, 7.89, 0.12].map(f32::to_bits).to_vec(),
             page: "01 00 00 0A 04 00 00 00 04 00 00 00 02 00 00 00 0C 00 00 00 0A 6F F0 96 30 00",
         },
@@ -379,6 +422,7 @@ fn singles() -> [Recording<u32>; 4] {
             name: "R2",
             s: 10,
             pairs: vec![Pair { exponent: 1, factor: 0 }],
+            chosen: vec![Pair { exponent: 1, factor: 0 }],
             values: vec![0x3FC0_0000, 0x7FC0_0000, 0x4020_0000, 0x3EAA_AAAB],
             page: "01 00 00 0A 04 00 00 00 04 00 00 00 01 00 02 00 0F 00 00 00 04 00 0A 01 00 03 00 00 00 C0 7F AB AA AA 3E",
         },
@@ -386,6 +430,7 @@ fn singles() -> [Recording<u32>; 4] {
             name: "specials",
             s: 3,
             pairs: vec![Pair { exponent: 1, factor: 0 }],
+            chosen: vec![Pair { exponent: 1, factor: 0 }],
             values: vec![0x8000_0000, 0x7FA1_2345, 0x7F80_0000, 0xFF80_0000, 0x3FC0_0000, 0x0000_0001],
             page: "01 00 00 03 06 00 00 00 04 00 00 00 01 00 05 00 0F 00 00 00 00 00 00 01 00 02 00 03 00 05 00 \
                    00 00 00 80 45 23 A1 7F 00 00 80 7F 00 00 80 FF 01 00 00 00",
@@ -394,6 +439,7 @@ fn singles() -> [Recording<u32>; 4] {
             name: "halves",
             s: 3,
             pairs: vec![Pair { exponent: 1, factor: 0 }; 2],
+            chosen: vec![Pair { exponent: 1, factor: 0 }, Pair { exponent: 0, factor: 0 }],
             values: HALVES.map(f32::to_bits).to_vec(),
             page: "01 00 00 03 0B 00 00 00 08 00 00 00 17 00 00 00 01 00 00 00 00 00 00 00 06 40 A1 3C 54 E6 8D \
                    01 00 01 00 28 00 00 00 04 00 0A 01 00 00 00 00 80",
@@ -408,6 +454,7 @@ fn doubles() -> [Recording<u64>; 3] {
             name: "R7",
             s: 10,
             pairs: vec![Pair { exponent: 1, factor: 0 }],
+            chosen: vec![Pair { exponent: 1, factor: 0 }],
             values: vec![1.5_f64.to_bits()],
             page: "01 00 00 0A 01 00 00 00 04 00 00 00 01 00 00 00 0F 00 00 00 00 00 00 00 00",
         },
@@ -415,6 +462,7 @@ fn doubles() -> [Recording<u64>; 3] {
             name: "specials",
             s: 3,
             pairs: vec![Pair { exponent: 1, factor: 0 }],
+            chosen: vec![Pair { exponent: 1, factor: 0 }],
             values: vec![
                 0x8000_0000_0000_0000,
                 0xFFF1_2345_6789_ABCD,
@@ -431,6 +479,7 @@ fn doubles() -> [Recording<u64>; 3] {
             name: "halves",
             s: 3,
             pairs: vec![Pair { exponent: 1, factor: 0 }; 2],
+            chosen: vec![Pair { exponent: 1, factor: 0 }, Pair { exponent: 0, factor: 0 }],
             values: HALVES.map(|value| f64::from(value).to_bits()).to_vec(),
             page: "01 00 00 03 0B 00 00 00 08 00 00 00 1B 00 00 00 01 00 00 00 00 00 00 00 00 00 00 00 06 40 A1 3C 54 E6 8D \
                    01 00 01 00 28 00 00 00 00 00 00 00 04 00 0A 01 00 00 00 00 00 00 00 00 80",
@@ -448,6 +497,8 @@ fn main() {
     }
     teller.tell_empty(&SINGLE);
     teller.tell_empty(&DOUBLE);
+    teller.tell_unchosen(&SINGLE);
+    teller.tell_unchosen(&DOUBLE);
     teller.tell_floats();
     teller.tell_sentences();
     println!("{} things shown", teller.shown);

@@ -12,6 +12,14 @@ pub(crate) struct Answer {
     pub(crate) place: u64,
 }
 
+/// What choosing answers: the answer as of every call, and the pair.
+#[repr(C)]
+pub(crate) struct Choice {
+    pub(crate) answer: Answer,
+    pub(crate) exponent: u8,
+    pub(crate) factor: u8,
+}
+
 /// MXCSR as at the start of a program: to nearest, every exception masked, subnormals kept, no sticky flag. The proofs take it so.
 const PLAIN: u32 = 0x1F80;
 
@@ -58,10 +66,10 @@ fn bytes_of(pairs: &[Pair]) -> &[u8] {
     unsafe { slice::from_raw_parts(pairs.as_ptr().cast(), pairs.len() * 2) }
 }
 
-/// Declares the five calls of one kind as crates/abi exports them, and a safe function over each.
+/// Declares the six calls of one kind as crates/abi exports them, and a safe function over each.
 macro_rules! calls {
     ($bits:ty: $measure:ident $alp_measure:ident, $write:ident $alp_write:ident, $read:ident $alp_read:ident,
-     $read_vector:ident $alp_read_vector:ident, $examine:ident $alp_examine:ident) => {
+     $read_vector:ident $alp_read_vector:ident, $examine:ident $alp_examine:ident, $choose:ident $alp_choose:ident) => {
         #[link(name = "abi", kind = "static")]
         extern "C" {
             fn $alp_measure(
@@ -94,6 +102,7 @@ macro_rules! calls {
                 out_length: usize,
             ) -> Answer;
             fn $alp_examine(page: *const u8, page_length: usize) -> Answer;
+            fn $alp_choose(values: *const $bits, values_length: usize) -> Choice;
         }
 
         pub(crate) fn $measure(values: &[$bits], s: u8, pairs: &[Pair]) -> Answer {
@@ -139,10 +148,16 @@ macro_rules! calls {
             // SAFETY: the pointer is a slice's, with its length; the archive reads no further and writes nothing.
             unsafe { $alp_examine(page.as_ptr(), page.len()) }
         }
+
+        pub(crate) fn $choose(values: &[$bits]) -> Choice {
+            let _floats = PlainFloats::enter();
+            // SAFETY: the pointer is a slice's, with its length; the archive reads no further and writes nothing.
+            unsafe { $alp_choose(values.as_ptr(), values.len()) }
+        }
     };
 }
 
 calls!(u32: measure32 alp_measure32, write32 alp_write32, read32 alp_read32, read_vector32 alp_read_vector32,
-    examine32 alp_examine32);
+    examine32 alp_examine32, choose32 alp_choose32);
 calls!(u64: measure64 alp_measure64, write64 alp_write64, read64 alp_read64, read_vector64 alp_read_vector64,
-    examine64 alp_examine64);
+    examine64 alp_examine64, choose64 alp_choose64);

@@ -26,6 +26,20 @@
 //! # }
 //! ```
 //!
+//! Who does not know the pairs has them chosen, vector by vector, for the shortest page:
+//!
+//! ```
+//! use strahnuk::{choose_pairs_f64, read_f64, write_f64};
+//!
+//! # fn main() -> Result<(), strahnuk::Refusal> {
+//! let prices: Vec<f64> = (0..3_000).map(|i| f64::from(9_900 + i % 251) / 100.0).collect();
+//! let page = write_f64(&prices, 10, &choose_pairs_f64(&prices, 10)?)?;
+//! assert!(page.len() < 8 * prices.len() / 7);
+//! assert_eq!(read_f64(&page)?, prices);
+//! # Ok(())
+//! # }
+//! ```
+//!
 //! # Linking
 //!
 //! `rt staticlib abi`, in the project's root folder, makes the archive. The build script looks for it there, in `target/staticlib`, or in
@@ -108,13 +122,19 @@ fn values_read<B: Clone + Default>(
     Ok(values)
 }
 
+/// The bit patterns of floats.
+fn bits_of<F: Copy, B>(values: &[F], to_bits: fn(F) -> B) -> Vec<B> {
+    values.iter().map(|&value| to_bits(value)).collect()
+}
+
 /// The public calls of one kind. The two kinds differ in names and widths alone, so they are written once; `$n` is the kind's 32 or 64, for
 /// the names in the documentation and its examples.
 macro_rules! kind {
     (
         $n:literal $bits:ident $float:ident:
         $measure:ident $write:ident $write_into:ident $read:ident $read_into:ident $read_vector:ident $read_vector_into:ident
-        $examine:ident $write_floats:ident $read_floats:ident $read_vector_floats:ident
+        $examine:ident $choose:ident $choose_pairs:ident
+        $write_floats:ident $read_floats:ident $read_vector_floats:ident $choose_pairs_floats:ident
     ) => {
         #[doc = concat!("The exact length in bytes of the page that [`write", $n, "`] gives: the least room for [`write_into", $n, "`].")]
         ///
@@ -297,6 +317,52 @@ macro_rules! kind {
             outcome(foreign::$examine(page))
         }
 
+        /// The pair that gives one vector of these bit patterns the fewest bytes; of several such pairs the first, exponent rising, then
+        /// factor rising.
+        ///
+        /// Every pair is tried, 66 (32-bit) or 190 (64-bit), and left as soon as it can't be better.
+        ///
+        /// Row: 31 if there are no values, or more than [`MOST_IN_VECTOR`].
+        ///
+        /// ```
+        #[doc = concat!("use strahnuk::{choose", $n, ", Pair, Row};")]
+        /// # fn main() -> Result<(), strahnuk::Refusal> {
+        #[doc = concat!("let column = [1.5_f", $n, ".to_bits(), 2.5_f", $n, ".to_bits()];")]
+        #[doc = concat!("assert_eq!(choose", $n, "(&column)?, Pair { exponent: 1, factor: 0 });")]
+        #[doc = concat!("assert_eq!(choose", $n, "(&[]).unwrap_err().row, Row::NotOneVector);")]
+        /// # Ok(())
+        /// # }
+        /// ```
+        pub fn $choose(values: &[$bits]) -> Result<Pair, Refusal> {
+            let foreign::Choice { answer, exponent, factor } = foreign::$choose(values);
+            outcome(answer).map(|_| Pair { exponent, factor })
+        }
+
+        #[doc = concat!("The pairs of a whole column in vectors of 2^`s` values, as [`choose", $n, "`] gives them one by one: with them")]
+        #[doc = concat!("[`write", $n, "`] gives its shortest page of that `s`.")]
+        ///
+        #[doc = concat!("Rows in order: 5, 6, as for [`write", $n, "`].")]
+        ///
+        /// ```
+        #[doc = concat!("use strahnuk::{choose_pairs", $n, ", read", $n, ", write", $n, ", Pair};")]
+        /// # fn main() -> Result<(), strahnuk::Refusal> {
+        /// // Nine values in vectors of eight: halves in the first, a whole number in the second.
+        #[doc = concat!("let mut column = [1.5_f", $n, ".to_bits(); 9];")]
+        #[doc = concat!("column[8] = 7.0_f", $n, ".to_bits();")]
+        #[doc = concat!("let pairs = choose_pairs", $n, "(&column, 3)?;")]
+        /// assert_eq!(pairs, [Pair { exponent: 1, factor: 0 }, Pair { exponent: 0, factor: 0 }]);
+        #[doc = concat!("assert_eq!(read", $n, "(&write", $n, "(&column, 3, &pairs)?)?, column);")]
+        /// # Ok(())
+        /// # }
+        /// ```
+        pub fn $choose_pairs(values: &[$bits], s: u8) -> Result<Vec<Pair>, Refusal> {
+            // Whatever the pairs, the writer would refuse such a column for these two rows first.
+            match $measure(values, s, &[]) {
+                Err(refusal) if matches!(refusal.row, Row::VectorSize | Row::TooManyValues) => Err(refusal),
+                _ => values.chunks(1 << s).map($choose).collect(),
+            }
+        }
+
         #[doc = concat!("[`write", $n, "`] for floats: their bits are written as they are.")]
         ///
         /// ```
@@ -310,8 +376,7 @@ macro_rules! kind {
         /// # }
         /// ```
         pub fn $write_floats(values: &[$float], s: u8, pairs: &[Pair]) -> Result<Vec<u8>, Refusal> {
-            let bits: Vec<$bits> = values.iter().map(|value| value.to_bits()).collect();
-            $write(&bits, s, pairs)
+            $write(&bits_of(values, $float::to_bits), s, pairs)
         }
 
         #[doc = concat!("[`read", $n, "`] for floats: their bits are those of the page.")]
@@ -341,15 +406,30 @@ macro_rules! kind {
         pub fn $read_vector_floats(page: &[u8], number: usize) -> Result<Vec<$float>, Refusal> {
             Ok($read_vector(page, number)?.into_iter().map($float::from_bits).collect())
         }
+
+        #[doc = concat!("[`choose_pairs", $n, "`] for floats: the pairs for [`write_f", $n, "`].")]
+        ///
+        /// ```
+        #[doc = concat!("use strahnuk::{choose_pairs_f", $n, ", Pair};")]
+        /// # fn main() -> Result<(), strahnuk::Refusal> {
+        #[doc = concat!("assert_eq!(choose_pairs_f", $n, "(&[1.5, 2.5], 10)?, [Pair { exponent: 1, factor: 0 }]);")]
+        /// # Ok(())
+        /// # }
+        /// ```
+        pub fn $choose_pairs_floats(values: &[$float], s: u8) -> Result<Vec<Pair>, Refusal> {
+            $choose_pairs(&bits_of(values, $float::to_bits), s)
+        }
     };
 }
 
 kind!("32" u32 f32:
     measure32 write32 write_into32 read32 read_into32 read_vector32 read_vector_into32
-    examine32 write_f32 read_f32 read_vector_f32);
+    examine32 choose32 choose_pairs32
+    write_f32 read_f32 read_vector_f32 choose_pairs_f32);
 kind!("64" u64 f64:
     measure64 write64 write_into64 read64 read_into64 read_vector64 read_vector_into64
-    examine64 write_f64 read_f64 read_vector_f64);
+    examine64 choose64 choose_pairs64
+    write_f64 read_f64 read_vector_f64 choose_pairs_f64);
 
 #[cfg(test)]
 mod tests {

@@ -59,12 +59,12 @@ rows! {
     2 Version "the version is not 1", "read, read vector, examine";
     3 Mode "the mode is not 0", "read, read vector, examine";
     4 IntegerEncoding "the integer encoding is not 0", "read, read vector, examine";
-    5 VectorSize "s is below 3 or above 10", "all calls";
-    6 TooManyValues "more than 16,384 values", "all calls";
+    5 VectorSize "s is below 3 or above 10", "all calls but choose";
+    6 TooManyValues "more than 16,384 values", "all calls but choose";
     7 PastEnd "the offsets, a vector's metadata or its data run past the end", "read, read vector, examine";
     8 Offset "an offset differs from the layout's", "read, read vector, examine";
-    9 Exponent "the exponent is above the kind's largest", "all calls";
-    10 Factor "the factor is above the exponent", "all calls";
+    9 Exponent "the exponent is above the kind's largest", "all calls but choose";
+    10 Factor "the factor is above the exponent", "all calls but choose";
     11 TooManyExceptions "more exceptions than values in the vector", "read, read vector, examine";
     12 Width "the width is above the kind's", "read, read vector, examine";
     13 Position "a position is not below the vector's count, or not above the one before", "read, read vector, examine";
@@ -77,6 +77,7 @@ rows! {
     23 StandIn "a listed position does not hold the stand-in", "examine";
     24 FrameOrWidth "the frame is not the smallest, or the width is not the fewest bits", "examine";
     30 NoSuchVector "there is no vector of that number", "read vector";
+    31 NotOneVector "no values, or more than 1,024", "choose";
 }
 
 /// A refusal: the row, and where. Nothing that was lent has changed.

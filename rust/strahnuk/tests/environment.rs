@@ -67,7 +67,7 @@ fn rounding_is_really_set() {
 /// The tests of one kind, on hundredths: rounded otherwise, some would come back with other bits.
 macro_rules! environments {
     ($kind:ident $float:ident $bits:ident $measure:ident $write_into:ident $read_into:ident
-     $read_vector_into:ident $examine:ident) => {
+     $read_vector_into:ident $examine:ident $choose:ident) => {
         #[test]
         fn $kind() {
             let column = [0.1, 0.7, 1.23, 4.56, 7.89, 0.29, 1.1, 2.2].map($float::to_bits);
@@ -81,7 +81,8 @@ macro_rules! environments {
                 let examined = $examine(&page[..length.unwrap_or(0)]);
                 let count = $read_into(&page[..length.unwrap_or(0)], &mut values);
                 let counted = $read_vector_into(&page[..length.unwrap_or(0)], 0, &mut alone);
-                (page, values, alone, measured, length, examined, count, counted)
+                let chosen = $choose(&column);
+                (page, values, alone, measured, length, examined, count, counted, chosen)
             };
             let plain = call();
             assert_eq!((plain.1, plain.2), (column, column));
@@ -96,8 +97,8 @@ macro_rules! environments {
     };
 }
 
-environments!(of_32_bits f32 u32 measure32 write_into32 read_into32 read_vector_into32 examine32);
-environments!(of_64_bits f64 u64 measure64 write_into64 read_into64 read_vector_into64 examine64);
+environments!(of_32_bits f32 u32 measure32 write_into32 read_into32 read_vector_into32 examine32 choose32);
+environments!(of_64_bits f64 u64 measure64 write_into64 read_into64 read_vector_into64 examine64 choose64);
 
 #[test]
 fn a_refusal_restores_too() {

@@ -57,7 +57,7 @@ fn examined() -> Vec<(Vec<u8>, &'static str)> {
 
 /// The numbers of all rows.
 fn table() -> BTreeSet<u64> {
-    (1..=16).chain(20..=24).chain([30]).collect()
+    (1..=16).chain(20..=24).chain([30, 31]).collect()
 }
 
 #[test]
@@ -80,6 +80,7 @@ fn every_row_is_met_and_prints() {
     seen(read_into32(&R5, &mut [0]).unwrap_err(), "15 0 0: the lent output is too short");
     seen(write32(&[0], 10, &[]).unwrap_err(), "16 0 0: the pairs are not one per vector");
     seen(read_vector32(&R5, 1).unwrap_err(), "30 0 0: there is no vector of that number");
+    seen(choose32(&[]).unwrap_err(), "31 0 0: no values, or more than 1,024");
     assert_eq!(met, table());
 }
 
