@@ -4,46 +4,32 @@
  *     read, vector, examine    read the page, or one vector of it, or examine it
  *     measure                  how long the page is
  *     write                    write it into what measuring gives
+ *     choose                   choose the pairs, one call for each vector; WIDTH is the name of a column (columns.h), and EVERY is not used
  *
  * The page has vectors of 2^S whole numbers, each with fields of exactly WIDTH bits. One value in EVERY is an exception, none where EVERY is
  * 0. All that is checked; and what is read back has to be the column, bit for bit: a count of a call that does something else would mean
  * nothing.
  */
+#include "columns.h"
 #include "strahnuk.h"
 
-#include <stdio.h>
-#include <stdlib.h>
-#include <string.h>
+enum { MOST_VECTORS = VALUES / 8, ASKED = 7, HEADER = 8, MOST_BYTES = 400000 };
 
-enum { VALUES = 16384, MOST_VECTORS = VALUES / 8, ASKED = 7, HEADER = 8, MOST_BYTES = 400000 };
+/* An archive from before choosing can still be linked, to count its other calls. */
+#pragma weak alp_choose32
+#pragma weak alp_choose64
 
 static uint8_t page[MOST_BYTES];
-static uint32_t column32[VALUES], back32[VALUES];
-static uint64_t column64[VALUES], back64[VALUES];
-static const uint8_t pairs[2 * MOST_VECTORS] = {0}; /* exponent 0 and factor 0 for each vector */
+static uint32_t back32[VALUES];
+static uint64_t back64[VALUES];
+static uint8_t pairs[2 * MOST_VECTORS]; /* exponent 0 and factor 0 for each vector, unless they are chosen */
 static uint8_t s;
 static size_t vector, vectors; /* how many values one has, and how many there are */
-
-static void fail(const char *what)
-{
-    fprintf(stderr, "cost: %s\n", what);
-    exit(2);
-}
 
 static size_t done(strahnuk_answer answer, const char *call)
 {
     if (answer.number != STRAHNUK_DONE) fail(call);
     return (size_t)answer.place;
-}
-
-/* Numbers without a pattern, the same on every machine: xorshift. */
-static uint64_t any(void)
-{
-    static uint64_t state = 88172645463325252u;
-    state ^= state << 13;
-    state ^= state >> 7;
-    state ^= state << 17;
-    return state;
 }
 
 /*
@@ -134,9 +120,25 @@ static void read_one_vector(unsigned kind, size_t length)
     }
 }
 
-static int is(const char *word, const char *other)
+static void choose_pairs(unsigned kind)
 {
-    return strcmp(word, other) == 0;
+    size_t v;
+    for (v = 0; v < vectors; v++) {
+        const strahnuk_choice choice = kind == 32 ? alp_choose32(column32 + v * vector, vector) : alp_choose64(column64 + v * vector, vector);
+        if (done(choice.answer, "choose") != vector) fail("choosing took more or fewer values");
+        pairs[2 * v] = choice.exponent, pairs[2 * v + 1] = choice.factor;
+    }
+}
+
+/* The page with the chosen pairs has to fit where the one with the pairs 0, 0 does, and to read back. */
+static void choose_for(unsigned kind, const char *name)
+{
+    size_t room;
+    if (!alp_choose32 || !alp_choose64) fail("the archive can't choose");
+    make_named_column(name);
+    room = measured(kind);
+    choose_pairs(kind);
+    read_page(kind, make_page(kind, room));
 }
 
 /* The call that is counted; a page that was written is read back instead, since writing it was the one call to count. */
@@ -161,16 +163,17 @@ int main(int count, char **words)
 {
     unsigned kind, width, every;
     size_t length;
-    if (count != 6) fail("cost read|vector|examine|measure|write 32|64 WIDTH EVERY S");
+    if (count != 6) fail("cost read|vector|examine|measure|write|choose 32|64 WIDTH EVERY S");
     kind = number(words[2], 64);
     if (kind != 32 && kind != 64) fail("no such kind");
-    width = number(words[3], kind);
-    every = number(words[4], VALUES);
-    if (every == 1 || every == 2) fail("a vector's first two values can't be exceptions");
     s = (uint8_t)number(words[5], 10);
     if (s < 3) fail("no such vector size");
     vector = (size_t)1 << s;
     vectors = VALUES / vector;
+    if (is(words[1], "choose")) return choose_for(kind, words[3]), 0;
+    width = number(words[3], kind);
+    every = number(words[4], VALUES);
+    if (every == 1 || every == 2) fail("a vector's first two values can't be exceptions");
     make_column(kind, width, every);
     length = make_page(kind, is(words[1], "write") ? measured(kind) : sizeof page);
     check_vectors(kind, width, every);
