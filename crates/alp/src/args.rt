@@ -89,6 +89,16 @@ fn kind_named(word: &[u8]) -> KindWord {
     KindWord::Wrong
 }
 
+// Whether word i leaves the pairs to the library.
+pub fn says_auto(i: usize) -> bool {
+    let mut word: [u8; 8] = [0; 8];
+    let n = os::arg(i, &mut word);
+    if os::errno() != 0 {
+        return false;
+    }
+    same(&word[..n], b"auto")
+}
+
 // The number from 0 to 255 that word i spells, so `%` cuts nothing off. Whether it is inside the page's limits is the library's to say.
 pub fn byte(i: usize) -> ByteWord {
     let mut word: [u8; 8] = [0; 8];

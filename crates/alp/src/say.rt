@@ -17,6 +17,9 @@ pub fn help() {
     text(
         b"  alp write KIND S E F COLUMN PAGE   write the page of a column, vectors of 2^S values, exponent E, factor F\n",
     );
+    text(
+        b"  alp write KIND S auto COLUMN PAGE  the same, E and F chosen for each vector so that it has the fewest bytes\n",
+    );
     text(b"  alp read KIND PAGE COLUMN          read a page back to its column\n");
     text(
         b"  alp read KIND PAGE COLUMN NUMBER   read one vector of a page alone, to a column of its values\n",

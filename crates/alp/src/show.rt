@@ -143,7 +143,7 @@ fn blanks(n: usize) {
 }
 
 // n at the right of a column of this width.
-fn right(n: u64, width: usize) {
+pub fn right(n: u64, width: usize) {
     let mut digits: [u8; 20] = [0; 20];
     let k = io::decimal(n, &mut digits);
     if k < width {

@@ -1,8 +1,12 @@
-// `alp write KIND S E F COLUMN PAGE`.
+// `alp write KIND S E F COLUMN PAGE`, and with `auto` in place of E and F the page with the pairs that the library chooses.
 use crate::args::ByteWord;
 use crate::args::KindWord;
 use crate::args::byte;
 use crate::args::kind;
+use crate::args::says_auto;
+use crate::choose::choose_pairs32;
+use crate::choose::choose_pairs64;
+use crate::choose::show_chosen;
 use crate::rooms::column32;
 use crate::rooms::column64;
 use crate::rooms::page32;
@@ -34,29 +38,65 @@ use writer::write64;
 ghost use Prim.Native.Nat.{_*_, _≤_};
 ghost use lib.ListN.{length};
 
-// One exponent and factor for every vector of the column.
+// Where the pairs come from: one exponent and factor for every vector of the column, or the library's choice for each.
+enum Pairs {
+    Given(u8, u8),
+    Chosen,
+}
+
+// The last two are the words that name the files.
 struct Settings {
     s: u8,
-    exponent: u8,
-    factor: u8,
+    pairs: Pairs,
+    column: usize,
+    page: usize,
 }
 
 pub fn run() {
-    if os::arg_count() != 8 {
-        wrong(b"write takes KIND, S, E, F, COLUMN and PAGE");
-        return;
-    }
-    match kind(2) {
-        KindWord::Wrong => wrong(b"KIND is 32 or 64"),
-        KindWord::Is(kind) => write_with(kind),
+    let words = os::arg_count();
+    match words {
+        8 => write_words(false),
+        7 => write_auto(),
+        _ => usage(),
     }
 }
 
-fn write_with(kind: Kind) {
+fn usage() {
+    wrong(b"write takes KIND, S, E and F or auto, COLUMN and PAGE");
+}
+
+fn write_auto() {
+    if says_auto(4) {
+        write_words(true);
+    } else {
+        usage();
+    }
+}
+
+fn write_words(chosen: bool) {
+    match kind(2) {
+        KindWord::Wrong => wrong(b"KIND is 32 or 64"),
+        KindWord::Is(kind) => write_with(kind, chosen),
+    }
+}
+
+fn write_with(kind: Kind, chosen: bool) {
     let ByteWord::Is(s) = byte(3) else {
         wrong(b"S is a number from 3 to 10");
         return;
     };
+    if chosen {
+        write_column(
+            kind,
+            Settings {
+                s,
+                pairs: Pairs::Chosen,
+                column: 5,
+                page: 6,
+            },
+        );
+        return;
+    }
     let ByteWord::Is(exponent) = byte(4) else {
         wrong(b"E is a number, at most 10 or 18 by the kind");
         return;
@@ -65,11 +105,18 @@ fn write_with(kind: Kind) {
         wrong(b"F is a number, at most E");
         return;
     };
-    let settings = Settings {
-        s,
-        exponent,
-        factor,
-    };
+    write_column(
+        kind,
+        Settings {
+            s,
+            pairs: Pairs::Given(exponent, factor),
+            column: 6,
+            page: 7,
+        },
+    );
+}
+
+fn write_column(kind: Kind, settings: Settings) {
     match kind {
         Kind::Single => write_column32(settings),
         Kind::Double => write_column64(settings),
@@ -91,7 +138,7 @@ fn write_column64(settings: Settings) {
 fn write_loaded32(settings: Settings, column: &mut [u8], values: &mut [u32])
     requires { ⌜ length (now column) ≤ 4 * length (now values) ⌝ }
 {
-    let loaded = load(&WHO, 6, column);
+    let loaded = load(&WHO, settings.column, column);
     if loaded.failed {
         return;
     }
@@ -108,7 +155,7 @@ fn write_loaded32(settings: Settings, column: &mut [u8], values: &mut [u32])
 fn write_loaded64(settings: Settings, column: &mut [u8], values: &mut [u64])
     requires { ⌜ length (now column) ≤ 8 * length (now values) ⌝ }
 {
-    let loaded = load(&WHO, 6, column);
+    let loaded = load(&WHO, settings.column, column);
     if loaded.failed {
         return;
     }
@@ -149,10 +196,26 @@ fn fill_pairs(pairs: &mut [u8], exponent: u8, factor: u8) {
     }
 }
 
+fn set_pairs32(settings: Settings, values: &[u32], pairs: &mut [u8]) {
+    let source = settings.pairs;
+    match source {
+        Pairs::Given(exponent, factor) => fill_pairs(pairs, exponent, factor),
+        Pairs::Chosen => choose_pairs32(values, settings.s, pairs),
+    }
+}
+
 fn write_values32(settings: Settings, values: &[u32]) {
     let mut pairs = pairs();
     let mut page = page32();
     write_to32(settings, values, &mut pairs, &mut page);
+}
+
+fn set_pairs64(settings: Settings, values: &[u64], pairs: &mut [u8]) {
+    let source = settings.pairs;
+    match source {
+        Pairs::Given(exponent, factor) => fill_pairs(pairs, exponent, factor),
+        Pairs::Chosen => choose_pairs64(values, settings.s, pairs),
+    }
 }
 
 fn write_values64(settings: Settings, values: &[u64]) {
@@ -167,7 +230,7 @@ fn write_to32(settings: Settings, values: &[u32], pairs: &mut [u8], page: &mut [
     requires { ⌜ 32768 ≤ length (now pairs) ⌝ }
 {
     let k = pairs_length(settings.s, values.len());
-    fill_pairs(&mut pairs[0..k], settings.exponent, settings.factor);
+    set_pairs32(settings, values, &mut pairs[0..k]);
     let measured = measure32(values, settings.s, &pairs[0..k]);
     if measured.number != 0 {
         refusal(measured);
@@ -175,14 +238,14 @@ fn write_to32(settings: Settings, values: &[u32], pairs: &mut [u8], page: &mut [
     }
     let n = least(measured.place as usize, page.len());
     let answer = write32(values, settings.s, &pairs[0..k], &mut page[0..n]);
-    finish(answer, &page[0..n]);
+    finish(settings, answer, &pairs[0..k], &page[0..n]);
 }
 
 fn write_to64(settings: Settings, values: &[u64], pairs: &mut [u8], page: &mut [u8])
     requires { ⌜ 32768 ≤ length (now pairs) ⌝ }
 {
     let k = pairs_length(settings.s, values.len());
-    fill_pairs(&mut pairs[0..k], settings.exponent, settings.factor);
+    set_pairs64(settings, values, &mut pairs[0..k]);
     let measured = measure64(values, settings.s, &pairs[0..k]);
     if measured.number != 0 {
         refusal(measured);
@@ -190,16 +253,26 @@ fn write_to64(settings: Settings, values: &[u64], pairs: &mut [u8], page: &mut [
     }
     let n = least(measured.place as usize, page.len());
     let answer = write64(values, settings.s, &pairs[0..k], &mut page[0..n]);
-    finish(answer, &page[0..n]);
+    finish(settings, answer, &pairs[0..k], &page[0..n]);
 }
 
 // What the writer was lent is the page, to its last byte.
-fn finish(answer: Answer, page: &[u8]) {
+fn finish(settings: Settings, answer: Answer, pairs: &[u8], page: &[u8]) {
     if answer.number != 0 {
         refusal(answer);
         return;
     }
-    if save(&WHO, 7, page) {
+    if save(&WHO, settings.page, page) {
+        tell(settings, pairs);
         done(answer, b"wrote a page of ", b"byte");
+    }
+}
+
+// Pairs that the caller gave he knows.
+fn tell(settings: Settings, pairs: &[u8]) {
+    let source = settings.pairs;
+    match source {
+        Pairs::Given(_, _) => {}
+        Pairs::Chosen => show_chosen(pairs),
     }
 }

@@ -1,6 +1,7 @@
-// Runs document 01's recordings, a page read vector by vector, a column written into outputs of edge lengths, and columns of edge lengths
-// through the library and prints what each call answers and gives; the gate holds the output to what an independent program over exact
-// fractions gives.
+// Runs document 01's recordings, a page read vector by vector, vectors whose pair is chosen, a column written into outputs of edge lengths,
+// and columns of edge lengths through the library and prints what each call answers and gives; the gate holds the output to what an
+// independent program over exact fractions gives.
+mod chosen;
 mod columns;
 mod examined;
 mod lent;
@@ -15,6 +16,7 @@ fn main() {
     refused::run();
     examined::run();
     vectors::run();
+    chosen::run();
     lent::run();
     columns::run();
 }

@@ -1,4 +1,6 @@
-// R1 to R9: the writer's bytes, what the reader makes of them, and the examiner's answer.
+// R1 to R9: the pair that is chosen, the writer's bytes, what the reader makes of them, and the examiner's answer.
+use crate::chosen::chosen32;
+use crate::chosen::chosen64;
 use crate::pages::both32;
 use crate::pages::both64;
 use crate::show::bytes;
@@ -8,6 +10,7 @@ use writer::write32;
 use writer::write64;
 
 fn round32(name: &[u8], s: u8, e: u8, f: u8, values: &[u32]) {
+    chosen32(name, values);
     let pairs: [u8; 2] = [e, f];
     let mut page: [u8; 80] = [0xEE; 80];
     let wrote = write32(values, s, &pairs, &mut page);
@@ -25,6 +28,7 @@ fn round32(name: &[u8], s: u8, e: u8, f: u8, values: &[u32]) {
 }
 
 fn round64(name: &[u8], s: u8, e: u8, f: u8, values: &[u64]) {
+    chosen64(name, values);
     let pairs: [u8; 2] = [e, f];
     let mut page: [u8; 80] = [0xEE; 80];
     let wrote = write64(values, s, &pairs, &mut page);

@@ -90,6 +90,7 @@ fn sentence(row: u64) {
         14..=16 => lent_row(row),
         20..=24 => rule_row(row),
         30 => text(b"there is no vector of that number"),
+        31 => text(b"no values, or more than 1,024"),
         _ => text(b"not a row of the table"),
     }
 }
