@@ -10,11 +10,9 @@ use lib.Dec.{T, T-not}
 use Rattle.rules.specs.declared.Answer.{Answer}
 use Rattle.digits.specs.Lists.{Each, over}
 use Rattle.digits.proofs.Lists.{length-over}
-use Rattle.rules.specs.Verdict.{Point, Rows, Verdict, ordered, Passes, FirstTrue, fine, refuse, verdict, Result, done, refused, settle, call, answer, done-with, refusal}
-use lib.Ieee.{Format}
+use Rattle.rules.specs.Verdict.{Point, Rows, Verdict, ordered, Passes, FirstTrue, fine, refuse, verdict, Result, done, refused, settle, call, answer, refusal}
 use mathlib.Core.Logic.{_⊎_, inl, inr}
-use Rattle.rules.specs.Write.{settingsRows, pageSize}
-use Rattle.rules.specs.Calls.{among, measured, measureOf, given-by-measuring}
+use Rattle.rules.specs.Calls.{among}
 use Rattle.rules.specs.Demands.{Answers, Leaves}
 use Rattle.theorems.proofs.Ordered.{fine-passes, passes-fine, refuse-first, first-refuses, Numbered, number-given}
 
@@ -62,17 +60,13 @@ place-when-done r numbers never table a is zero count =
     let d = done-when-zero r numbers never table a is zero in
     ap (λ (x : Answer). x .place) (is ∙ ap answer (d .1)) ∙ count (d .0) (d .1)
 
--- ---- measuring
+-- ---- a call that is lent nothing to write to: what it gives goes by the verdict alone
 
-pub measuring-gives : (fmt : Format) (s : ℕ) (pairs vs : List ℕ) → Numbered given-by-measuring (settingsRows fmt s pairs vs)
-    → ((a : ℕ) × (p : Point) × FirstTrue (ordered (settingsRows fmt s pairs vs)) a p × T (among a given-by-measuring) × (measureOf fmt s pairs vs ≡ refusal a p))
-    ⊎ (Each Passes (ordered (settingsRows fmt s pairs vs)) × (measureOf fmt s pairs vs ≡ done-with (pageSize fmt s pairs vs)))
-unfolding measureOf
-measuring-gives fmt s pairs vs n = go (verdict (settingsRows fmt s pairs vs)) refl
+pub verdict-gives : {A : Type 0} (rows : Rows) (numbers : List ℕ) (f : Verdict → A) → Numbered numbers rows
+    → ((a : ℕ) × (p : Point) × FirstTrue (ordered rows) a p × T (among a numbers) × (f (verdict rows) ≡ f (refuse a p))) ⊎ (Each Passes (ordered rows) × (f (verdict rows) ≡ f fine))
+verdict-gives {A} rows numbers f n = go (verdict rows) refl
   where
-    go : (v : Verdict) → verdict (settingsRows fmt s pairs vs) ≡ v
-        → ((a : ℕ) × (p : Point) × FirstTrue (ordered (settingsRows fmt s pairs vs)) a p × T (among a given-by-measuring) × (measured (verdict (settingsRows fmt s pairs vs)) (pageSize fmt s pairs vs) ≡ refusal a p))
-        ⊎ (Each Passes (ordered (settingsRows fmt s pairs vs)) × (measured (verdict (settingsRows fmt s pairs vs)) (pageSize fmt s pairs vs) ≡ done-with (pageSize fmt s pairs vs)))
-    go fine e = inr (fine-passes (settingsRows fmt s pairs vs) e, ap (λ (v : Verdict). measured v (pageSize fmt s pairs vs)) e)
-    go (refuse a p) e =
-        inl (a, p, refuse-first (settingsRows fmt s pairs vs) a p e, number-given given-by-measuring (settingsRows fmt s pairs vs) a p n e, ap (λ (v : Verdict). measured v (pageSize fmt s pairs vs)) e)
+    go : (v : Verdict) → verdict rows ≡ v
+        → ((a : ℕ) × (p : Point) × FirstTrue (ordered rows) a p × T (among a numbers) × (f (verdict rows) ≡ f (refuse a p))) ⊎ (Each Passes (ordered rows) × (f (verdict rows) ≡ f fine))
+    go fine e = inr (fine-passes rows e, ap f e)
+    go (refuse a p) e = inl (a, p, refuse-first rows a p e, number-given numbers rows a p n e, ap f e)

@@ -3,13 +3,13 @@
 use mathlib.Core.Path.{_≡_, refl, sym, ap, _∙_, subst}
 use mathlib.Core.Bool.{cond, _||_}
 use mathlib.Core.List.{List, [], _∷_, _++_, append-assoc, append-nil}
-use mathlib.Core.Logic.{_↔_, _⊎_, inl, inr}
+use mathlib.Core.Logic.{_↔_}
 use Prim.Native.Nat.{ℕ, zero, suc, _+_, _^_, _≤_, _<_}
 use native.Mathlib.Nat.{le-refl, lt-of-lt-of-le, lt-of-not-le, le-of-lt}
 use native.Mathlib.Decide.{decLe}
 use native.Mathlib.Omega.{arith}
 use lib.ListN.{length}
-use lib.Dec.{T, ltb}
+use lib.Dec.{ltb}
 use lib.Ieee.{Format, binary32, binary64}
 use borrow.Author.Tests.{lt-ltb, le-ltb, ltb-false}
 use Rattle.digits.specs.Lists.{Each}
@@ -17,26 +17,13 @@ use Rattle.digits.proofs.Lists.{each-append, each-map}
 use Rattle.rules.specs.Kind.{maxS, maxExponent}
 use Rattle.rules.specs.Decimal.{Pair}
 use Rattle.rules.specs.Write.{Allowed}
-use Rattle.rules.specs.Verdict.{Point, Verdict, fine, refuse, verdict, ordered, Passes, FirstTrue, the-page, _below_, _above_}
-use Rattle.rules.specs.Choose.{factors, exponents, allPairs, sizeWith, firstSmallest, firstPair, chosen, chooseRows, choice, chooseOf}
-use Rattle.rules.specs.Calls.{among, given-by-chooser}
+use Rattle.rules.specs.Verdict.{fine, verdict, the-page, _below_, _above_}
+use Rattle.rules.specs.Choose.{factors, exponents, allPairs, sizeWith, firstSmallest, firstPair, chosen, chooseRows}
 use Rattle.rules.specs.Demands.{FirstOfSmallest}
 use Rattle.rules.proofs.Rows.{row-passes, row-fine, neither, or-false, same-both}
-use Rattle.theorems.proofs.Ordered.{fine-passes, refuse-first, Numbered, number-given, each-split}
+use Rattle.theorems.proofs.Ordered.{each-split}
 
 -- ---- row 31
-
-pub choosing-gives : (fmt : Format) (vs : List ℕ) → Numbered given-by-chooser (chooseRows vs)
-    → ((a : ℕ) × (p : Point) × FirstTrue (ordered (chooseRows vs)) a p × T (among a given-by-chooser) × (chooseOf fmt vs ≡ choice (refuse a p) (length vs) (chosen fmt vs)))
-    ⊎ (Each Passes (ordered (chooseRows vs)) × (chooseOf fmt vs ≡ choice fine (length vs) (chosen fmt vs)))
-unfolding chooseOf
-choosing-gives fmt vs n = go (verdict (chooseRows vs)) refl
-  where
-    go : (v : Verdict) → verdict (chooseRows vs) ≡ v
-        → ((a : ℕ) × (p : Point) × FirstTrue (ordered (chooseRows vs)) a p × T (among a given-by-chooser) × (choice (verdict (chooseRows vs)) (length vs) (chosen fmt vs) ≡ choice (refuse a p) (length vs) (chosen fmt vs)))
-        ⊎ (Each Passes (ordered (chooseRows vs)) × (choice (verdict (chooseRows vs)) (length vs) (chosen fmt vs) ≡ choice fine (length vs) (chosen fmt vs)))
-    go fine e = inr (fine-passes (chooseRows vs) e, ap (λ (v : Verdict). choice v (length vs) (chosen fmt vs)) e)
-    go (refuse a p) e = inl (a, p, refuse-first (chooseRows vs) a p e, number-given given-by-chooser (chooseRows vs) a p n e, ap (λ (v : Verdict). choice v (length vs) (chosen fmt vs)) e)
 
 pub vector-fine : (vs : List ℕ) → (verdict (chooseRows vs) ≡ fine) ↔ ((1 ≤ length vs) × (length vs ≤ 2 ^ maxS))
 unfolding chooseRows

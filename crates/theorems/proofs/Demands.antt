@@ -22,13 +22,13 @@ use Rattle.rules.specs.Decimal.{Pair, power, negPower, scaled, signed, whole, b
 use Rattle.rules.specs.Floats.{NearestEven, RoundedOnce, NearestToInverse, AsNear, broughtBack}
 use Rattle.rules.specs.Vector.{Raw, tries, filled, fieldsOf, widthOf, encoded, fields, stored}
 use Rattle.rules.specs.Page.{vectors, pageOf, sOf, countOf, vectorsOf, bodyOf, metaAt}
-use Rattle.rules.specs.Verdict.{Point, the-page, fine, refuse, verdict, ordered, Passes, FirstTrue, done, refused, done-with, refusal, Result, answer, after}
+use Rattle.rules.specs.Verdict.{Point, Verdict, the-page, fine, refuse, verdict, ordered, Passes, FirstTrue, done, refused, done-with, refusal, Result, answer, after}
 use Rattle.rules.specs.Read.{readRows, valuesOf, readOf}
 use Rattle.rules.specs.ReadVector.{valuesIn, readVectorRows, vectorValues, readVectorOf}
 use Rattle.rules.specs.Examine.{unusedSet, examineRows, examineOf}
 use Rattle.rules.specs.Write.{pairsOf, Allowed, Inside, settingsRows, pageSize, bound, writeRows, writeOf}
 use Rattle.rules.specs.Choose.{allPairs, sizeWith, firstPair, chosen, chosenPairs, chooseRows, choice, chooseOf}
-use Rattle.rules.specs.Calls.{measureOf, Measured, Written, Read, ReadVector, Examined, Chosen, among, given-by-chooser, given-by-measuring, given-by-writer, given-by-reader, given-by-vector-reader, given-by-examiner}
+use Rattle.rules.specs.Calls.{measured, measureOf, Measured, Written, Read, ReadVector, Examined, Chosen, among, given-by-chooser, given-by-measuring, given-by-writer, given-by-reader, given-by-vector-reader, given-by-examiner}
 use Rattle.rules.specs.Demands.{Answers, Leaves, Examines, FirstOfSmallest, Alike}
 use Rattle.rules.specs.declared.Answer.{Answer}
 use Rattle.rules.specs.declared.Choice.{Choice}
@@ -36,7 +36,7 @@ use Rattle.rules.proofs.Order.{width-holds, width-fewest}
 use Rattle.rules.proofs.Settings.{settings-pass, settings-fine}
 use Rattle.rules.proofs.Powers as Powers
 use native.Mathlib.Omega.{arith}
-use Rattle.theorems.proofs.Called.{answers, leaves, measuring-gives, place-when-done}
+use Rattle.theorems.proofs.Called.{answers, leaves, verdict-gives, place-when-done}
 use Rattle.theorems.proofs.Examples.{nothing, nothing-written, nothing-read, nothing-accepted, no-bytes-refused, zeroPage, roomy, roomy-below, zero-written, zero-read, zero-vector-read, zero-lists-none, half}
 use Rattle.theorems.proofs.GivenBy.{chooser-numbered, measuring-numbered, writer-numbered, reader-numbered, vector-reader-numbered, examiner-numbered}
 use Rattle.theorems.proofs.RoundTrip.{written-length, round-trip}
@@ -46,7 +46,7 @@ use Rattle.theorems.proofs.Elsewhere.{elsewhere-does-not-matter}
 use Rattle.theorems.proofs.Listing.{listed-exactly}
 use Rattle.theorems.proofs.Bits.{encoded-bit, fields-bit, unused-exactly}
 use Rattle.theorems.proofs.OnePage.{accepted-is-page, page-is-accepted, one-page}
-use Rattle.theorems.proofs.Choosing.{choosing-gives, vector-fine, pairs-32, pairs-64, tried-inside, of-every-pair, chosen-exactly}
+use Rattle.theorems.proofs.Choosing.{vector-fine, pairs-32, pairs-64, tried-inside, of-every-pair, chosen-exactly}
 use Rattle.theorems.proofs.Shortest.{only-exceptions, chosen-settings, chosen-page, zero-exponent, half-exponent}
 use Rattle.theorems.proofs.Rounding as Rounding
 use Rattle.theorems.proofs.Nearest as Nearest
@@ -74,7 +74,8 @@ examiner-answers fmt bs = answers (examineRows fmt bs) given-by-examiner (values
 pub measuring-answers : (fmt : Format) (s : ℕ) (pairs vs : List ℕ)
     → ((a : ℕ) × (p : Point) × FirstTrue (ordered (settingsRows fmt s pairs vs)) a p × T (among a given-by-measuring) × (measureOf fmt s pairs vs ≡ refusal a p))
     ⊎ (Each Passes (ordered (settingsRows fmt s pairs vs)) × (measureOf fmt s pairs vs ≡ done-with (pageSize fmt s pairs vs)))
-measuring-answers fmt s pairs vs = measuring-gives fmt s pairs vs (measuring-numbered fmt s pairs vs)
+unfolding measureOf
+measuring-answers fmt s pairs vs = verdict-gives (settingsRows fmt s pairs vs) given-by-measuring (λ (v : Verdict). measured v (pageSize fmt s pairs vs)) (measuring-numbered fmt s pairs vs)
 
 -- what writer and readers leave of the lent output
 pub writer-leaves : (fmt : Format) (s : ℕ) (pairs vs out : List ℕ) → Leaves (writeOf fmt s pairs vs (length out)) out
@@ -226,7 +227,8 @@ demand-3 fmt bs h = record {
 pub chooser-answers : (fmt : Format) (vs : List ℕ)
     → ((a : ℕ) × (p : Point) × FirstTrue (ordered (chooseRows vs)) a p × T (among a given-by-chooser) × (chooseOf fmt vs ≡ choice (refuse a p) (length vs) (chosen fmt vs)))
     ⊎ (Each Passes (ordered (chooseRows vs)) × (chooseOf fmt vs ≡ choice fine (length vs) (chosen fmt vs)))
-chooser-answers fmt vs = choosing-gives fmt vs (chooser-numbered vs)
+unfolding chooseOf
+chooser-answers fmt vs = verdict-gives (chooseRows vs) given-by-chooser (λ (v : Verdict). choice v (length vs) (chosen fmt vs)) (chooser-numbered vs)
 
 -- row 31 means exactly: no values, or more than a vector holds
 pub row-31-means : (vs : List ℕ) → (verdict (chooseRows vs) ≡ fine) ↔ ((1 ≤ length vs) × (length vs ≤ 2 ^ maxS))
