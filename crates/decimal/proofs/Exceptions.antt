@@ -1,5 +1,5 @@
--- The exception rule by the tests that the code makes on bit patterns: a NaN or an infinity by the exponent's field, a scaled value beyond L
--- by its own, and the bits that come back, which are not those of negative zero. Assumes nothing.
+-- The exception rule by the tests that the code makes on bit patterns: a NaN or an infinity by the exponent's field, a scaled or a rounded
+-- value beyond L by its own, and the bits that come back, which are not those of negative zero. Assumes nothing.
 use mathlib.Core.Path.{_≡_, refl, sym, ap, _∙_, subst}
 use mathlib.Core.Bool.{Bool, true, false, not, _||_, cond, false≢true}
 use mathlib.Core.Option.{none, some}
@@ -8,26 +8,25 @@ use native.Mathlib.Nat.{le-of-lt, le-trans, zero-mul, zero-div, mul-pos}
 use native.Mathlib.Omega.{arith}
 use lib.Dec.{T, eqb, leb, lit<}
 use lib.IntN.{ℤ, pos}
-use lib.Ieee.{Float, nan, inf, fin, Format, binary32, binary64, top, hid, ones, low, prec, size, up, down, odd, round, mul, ofInt, isNan, toBits, ofBits, ofFields, nanBits}
+use lib.Ieee.{Float, nan, inf, fin, Format, binary32, binary64, top, hid, ones, low, prec, size, up, down, odd, round, add, sub, mul, ofInt, isNan, fits, toBits, ofBits, ofFields, nanBits}
 use lib.Ieee.Bits.{nanBits-above, ofBits-toBits, toBits-ofBits}
-use lib.Ieee.Fits.{mul-fits}
+use lib.Ieee.Fits.{mul-fits, sub-fits}
 use lib.Ieee.Exact.{HasValue}
-use lib.Ieee.Back.{round-whole}
+use lib.Ieee.Back.{round-whole, whole-unique}
 use lib.Ieee.Scale.{round-same}
 use lib.Ieee.Positive.{num, den, den-pos, positive, own-value}
 use borrow.Author.Tests.{le-ltb, eq-eqb, ne-eqb}
 use mir.Val.{SFits, toZ, ofZ}
 use mir.ValLaws.{toZ-ofZ}
-use Rattle.rules.specs.Kind.{word, maxExponent}
-use Rattle.rules.specs.Decimal.{Pair, power, negPower, scaled, signed, whole, back, isInfinite, isNegativeZero, beyond, exception, tried}
+use Rattle.rules.specs.Kind.{word, maxExponent, roundingConstant}
+use Rattle.rules.specs.Decimal.{Pair, power, negPower, scaled, rounded, truncated, whole, back, isInfinite, isNegativeZero, beyond, exception, tried}
 use Rattle.rules.specs.Write.{Allowed}
 use Rattle.rules.specs.Floats.{broughtBack}
 use Rattle.rules.proofs.Rows.{neither}
 use Rattle.rules.proofs.Tries.{tried-is, tried-none}
 use Rattle.rules.proofs.Powers.{power-positive, negPower-positive, back-bits}
 use Rattle.decimal.proofs.Products.{like, product-of}
-use Rattle.decimal.proofs.Closest.{closest-whole}
-use Rattle.decimal.proofs.Rounding.{cap, normal, near-val, beyond-bits}
+use Rattle.decimal.proofs.Rounding.{cap, normal, beyond-bits}
 use Rattle.decimal.proofs.Words.{word-back}
 
 -- ---- tests joined by ||
@@ -114,6 +113,11 @@ zero-only fmt v h o = go (ofBits fmt v) refl
         let real : T (not (isNan (ofBits fmt v))) = subst (λ (x : Float). T (not (isNan x))) (sym e) tt in
         absurd (o (sym (toBits-ofBits fmt v h real) ∙ ap (toBits fmt) e ∙ zero-bits fmt d ∙ zero-top fmt))
 
+whole-zero : (fmt : Format) → whole fmt (fin true 0 (pos 0)) ≡ pos 0
+unfolding whole rounded truncated round add sub ofInt
+whole-zero binary32 = refl
+whole-zero binary64 = refl
+
 -- a zero of either sign, times a positive number, is that zero
 zero-times : (fmt : Format) (s : Bool) (x y : Float) → HasValue x s 0 1 → T (positive y) → HasValue (mul fmt x y) s 0 1
 zero-times fmt s x y h k =
@@ -129,14 +133,18 @@ module _ (fmt : Format) (p : Pair) (inside : Allowed fmt p) where
   factor-in : p .factor ≤ maxExponent fmt
   factor-in = le-trans (inside .factor) (inside .exponent)
 
-  -- negative zero's whole number is 0
-  zero-whole : whole (scaled fmt p (ofBits fmt (top fmt))) ≡ pos 0
+  -- negative zero is its own scaled value
+  zero-scaled : scaled fmt p (ofBits fmt (top fmt)) ≡ fin true 0 (pos 0)
   unfolding scaled
-  zero-whole =
+  zero-scaled =
       let x = mul fmt (ofBits fmt (top fmt)) (power fmt (p .exponent)) in
-      near-val (mul fmt x (negPower fmt (p .factor))) true 0 1 (lit< tt)
+      whole-unique fmt (mul fmt x (negPower fmt (p .factor))) (fin true 0 (pos 0)) true 0 (mul-fits fmt x (negPower fmt (p .factor))) (unfold fits in tt)
       (zero-times fmt true x (negPower fmt (p .factor)) (zero-times fmt true (ofBits fmt (top fmt)) (power fmt (p .exponent)) (zero-there fmt) (power-positive fmt (p .exponent) (inside .exponent))) (negPower-positive fmt (p .factor) factor-in))
-      ∙ ap (signed true) (closest-whole 0)
+      (refl, refl)
+
+  -- so its whole number is 0
+  zero-whole : whole fmt (scaled fmt p (ofBits fmt (top fmt))) ≡ pos 0
+  zero-whole = ap (whole fmt) zero-scaled ∙ whole-zero fmt
 
   -- which comes back with another sign
   zero-back : HasValue (broughtBack fmt p (pos 0)) false 0 1
@@ -146,7 +154,7 @@ module _ (fmt : Format) (p : Pair) (inside : Allowed fmt p) where
       (zero-times fmt false (round fmt false 0 1) (power fmt (p .factor)) (round-whole fmt false 0 zero-le) (power-positive fmt (p .factor) factor-in))
       (negPower-positive fmt (p .exponent) (inside .exponent))
 
-  zero-lost : back fmt p (whole (scaled fmt p (ofBits fmt (top fmt)))) ≡ top fmt → ⊥
+  zero-lost : back fmt p (whole fmt (scaled fmt p (ofBits fmt (top fmt)))) ≡ top fmt → ⊥
   zero-lost e =
       let same : broughtBack fmt p (pos 0) ≡ ofBits fmt (top fmt) = sym (back-bits fmt p (pos 0)) ∙ ap (ofBits fmt) (sym (ap (back fmt p) zero-whole) ∙ e) in
       two-signs (broughtBack fmt p (pos 0)) zero-back (subst (λ (x : Float). HasValue x true 0 1) (sym same) (zero-there fmt))
@@ -165,21 +173,28 @@ module _ (fmt : Format) (p : Pair) (v : ℕ) where
   special = notFinite (ofBits fmt v) || isNegativeZero (ofBits fmt v)
 
   differs : Bool
-  differs = not (eqb (back fmt p (whole (scaledOf fmt p v))) v)
+  differs = not (eqb (back fmt p (whole fmt (scaledOf fmt p v))) v)
 
-  exception-is : exception fmt p v ≡ (special || beyond fmt (scaledOf fmt p v) || differs)
-  unfolding exception special differs
+  -- the scaled value and the rounded value beyond L
+  far : Bool
+  far = beyond fmt (scaledOf fmt p v)
+
+  farther : Bool
+  farther = beyond fmt (rounded fmt (scaledOf fmt p v))
+
+  exception-is : exception fmt p v ≡ (special || far || farther || differs)
+  unfolding exception special far farther differs
   exception-is = refl
 
-  excepted : exception fmt p v ≡ true → none ≡ tried fmt p v
-  excepted e = sym (tried-none fmt p v e)
-
-  special-excepted : special ≡ true → none ≡ tried fmt p v
-  special-excepted e = excepted (exception-is ∙ or-l (special || beyond fmt (scaledOf fmt p v)) differs (or-l special (beyond fmt (scaledOf fmt p v)) e))
+  excepted : (special || far || farther || differs) ≡ true → none ≡ tried fmt p v
+  excepted e = sym (tried-none fmt p v (exception-is ∙ e))
 
   pub by-large : ones fmt * hid fmt ≤ v % top fmt → none ≡ tried fmt p v
   unfolding special
-  by-large h = special-excepted (or-l (notFinite (ofBits fmt v)) (isNegativeZero (ofBits fmt v)) (large fmt v h))
+  by-large h =
+      excepted
+      (or-l (special || far || farther) differs
+      (or-l (special || far) farther (or-l special far (or-l (notFinite (ofBits fmt v)) (isNegativeZero (ofBits fmt v)) (large fmt v h)))))
 
   -- b, the scaled value's bits
   module _ (b : ℕ) (at : b ≡ toBits fmt (scaledOf fmt p v)) where
@@ -190,32 +205,45 @@ module _ (fmt : Format) (p : Pair) (v : ℕ) where
         ap (ofBits fmt) at ∙ ofBits-toBits fmt (mul fmt x (negPower fmt (p .factor))) (mul-fits fmt x (negPower fmt (p .factor)))
 
     pub by-scaled : cap fmt ≤ b % top fmt / hid fmt → none ≡ tried fmt p v
-    by-scaled h =
-        excepted
-        (exception-is ∙ or-l (special || beyond fmt (scaledOf fmt p v)) differs
-        (or-r special (beyond fmt (scaledOf fmt p v)) (ap (beyond fmt) (sym is) ∙ beyond-bits fmt b .1 h)))
+    unfolding far
+    by-scaled h = excepted (or-l (special || far || farther) differs (or-l (special || far) farther (or-r special far (ap (beyond fmt) (sym is) ∙ beyond-bits fmt b .1 h))))
 
-    -- past these tests, with the whole number z in hand and the bits c that it, as the word x, comes back as
-    module _ (z : ℤ) (held : SFits (word fmt) z) (near : z ≡ whole (ofBits fmt b)) (x c : ℕ) (as-word : x ≡ ofZ (word fmt) (toZ (word fmt) (ofZ (word fmt) z))) (came : c ≡ back fmt p (toZ (word fmt) x)) where
-      number-is : toZ (word fmt) (ofZ (word fmt) z) ≡ whole (scaledOf fmt p v)
-      number-is = toZ-ofZ (word fmt) z held ∙ near ∙ ap whole is
+    -- r, the rounded value's bits
+    module _ (r : ℕ) (rounded-at : r ≡ toBits fmt (rounded fmt (ofBits fmt b))) where
+      rounded-is : ofBits fmt r ≡ rounded fmt (scaledOf fmt p v)
+      unfolding rounded
+      rounded-is =
+          let c = ofInt fmt (pos (roundingConstant fmt)) in
+          ap (ofBits fmt) rounded-at
+          ∙ ofBits-toBits fmt (sub fmt (add fmt (ofBits fmt b) c) c) (sub-fits fmt (add fmt (ofBits fmt b) c) c)
+          ∙ ap (rounded fmt) is
 
-      came-is : c ≡ back fmt p (whole (scaledOf fmt p v))
-      came-is = came ∙ ap (back fmt p) (word-back (word fmt) z held x as-word ∙ number-is)
+      pub by-rounded : cap fmt ≤ r % top fmt / hid fmt → none ≡ tried fmt p v
+      unfolding farther
+      by-rounded h = excepted (or-l (special || far || farther) differs (or-r (special || far) farther (ap (beyond fmt) (sym rounded-is) ∙ beyond-bits fmt r .1 h)))
 
-      pub by-back : (c ≡ v → ⊥) → none ≡ tried fmt p v
-      unfolding differs
-      by-back h =
-          excepted
-          (exception-is ∙ or-r (special || beyond fmt (scaledOf fmt p v)) differs (ap not (ne-eqb (back fmt p (whole (scaledOf fmt p v))) v (λ e. h (came-is ∙ e)))))
+      -- past these tests, with the whole number z in hand and the bits c that it, as the word x, comes back as
+      module _ (z : ℤ) (held : SFits (word fmt) z) (cut : z ≡ truncated (ofBits fmt r)) (x c : ℕ) (as-word : x ≡ ofZ (word fmt) (toZ (word fmt) (ofZ (word fmt) z))) (came : c ≡ back fmt p (toZ (word fmt) x)) where
+        number-is : toZ (word fmt) (ofZ (word fmt) z) ≡ whole fmt (scaledOf fmt p v)
+        unfolding whole
+        number-is = toZ-ofZ (word fmt) z held ∙ cut ∙ ap truncated rounded-is
 
-      pub kept : Allowed fmt p → v < 2 * top fmt → v % top fmt < ones fmt * hid fmt → b % top fmt / hid fmt < cap fmt → c ≡ v → some (toZ (word fmt) (ofZ (word fmt) z)) ≡ tried fmt p v
-      unfolding special differs
-      kept inside fits low under h =
-          let comes : back fmt p (whole (scaledOf fmt p v)) ≡ v = sym came-is ∙ h in
-          let other : v ≡ top fmt → ⊥ = λ e. zero-lost fmt p inside (ap (λ (n : ℕ). back fmt p (whole (scaledOf fmt p n))) (sym e) ∙ comes ∙ e) in
-          let plain : special ≡ false = neither (notFinite (ofBits fmt v)) (isNegativeZero (ofBits fmt v)) (small fmt v low) (zero-only fmt v fits other) in
-          let e : exception fmt p v ≡ false =
-          exception-is
-          ∙ neither (special || beyond fmt (scaledOf fmt p v)) differs (neither special (beyond fmt (scaledOf fmt p v)) plain (ap (beyond fmt) (sym is) ∙ beyond-bits fmt b .0 under)) (ap not (eq-eqb (back fmt p (whole (scaledOf fmt p v))) v comes)) in
-          ap some number-is ∙ sym (tried-is fmt p v e)
+        came-is : c ≡ back fmt p (whole fmt (scaledOf fmt p v))
+        came-is = came ∙ ap (back fmt p) (word-back (word fmt) z held x as-word ∙ number-is)
+
+        pub by-back : (c ≡ v → ⊥) → none ≡ tried fmt p v
+        unfolding differs
+        by-back h = excepted (or-r (special || far || farther) differs (ap not (ne-eqb (back fmt p (whole fmt (scaledOf fmt p v))) v (λ e. h (came-is ∙ e)))))
+
+        pub kept : Allowed fmt p → v < 2 * top fmt → v % top fmt < ones fmt * hid fmt → b % top fmt / hid fmt < cap fmt → r % top fmt / hid fmt < cap fmt → c ≡ v → some (toZ (word fmt) (ofZ (word fmt) z)) ≡ tried fmt p v
+        unfolding special far farther differs
+        kept inside fits low under near h =
+            let comes : back fmt p (whole fmt (scaledOf fmt p v)) ≡ v = sym came-is ∙ h in
+            let other : v ≡ top fmt → ⊥ = λ e. zero-lost fmt p inside (ap (λ (n : ℕ). back fmt p (whole fmt (scaledOf fmt p n))) (sym e) ∙ comes ∙ e) in
+            let plain : special ≡ false = neither (notFinite (ofBits fmt v)) (isNegativeZero (ofBits fmt v)) (small fmt v low) (zero-only fmt v fits other) in
+            let inner : far ≡ false = ap (beyond fmt) (sym is) ∙ beyond-bits fmt b .0 under in
+            let outer : farther ≡ false = ap (beyond fmt) (sym rounded-is) ∙ beyond-bits fmt r .0 near in
+            let same : differs ≡ false = ap not (eq-eqb (back fmt p (whole fmt (scaledOf fmt p v))) v comes) in
+            let e : exception fmt p v ≡ false =
+            exception-is ∙ neither (special || far || farther) differs (neither (special || far) farther (neither special far plain inner) outer) same in
+            ap some number-is ∙ sym (tried-is fmt p v e)

@@ -2,7 +2,6 @@ pub mod Entries
 pub mod Products
 pub mod Powers
 pub mod Halves
-pub mod Closest
 pub mod Rounding
 pub mod Exceptions
 pub mod Words

@@ -68,7 +68,7 @@ module _ (fmt : Format) (p : Pair) (vs : List ℕ) where
         let v : ℕ = getD vs i 0 in
         let us : List (Option ℤ) = tries fmt p (drop (i + 1) vs) in
         ap (λ (x : List (Option ℤ)). les 2 (places i x)) (tries-next fmt p vs i h)
-        ∙ ap (les 2) (places-cons i (exception fmt p v) (whole (scaled fmt p (ofBits fmt v))) us ∙ ap (λ (k : ℕ). entry (exception fmt p v) i ++ places k us) (sym (add-one i)))
+        ∙ ap (les 2) (places-cons i (exception fmt p v) (whole fmt (scaled fmt p (ofBits fmt v))) us ∙ ap (λ (k : ℕ). entry (exception fmt p v) i ++ places k us) (sym (add-one i)))
         ∙ les-append 2 (entry (exception fmt p v) i) (places (i + 1) us)
 
     patterns-next : i < length vs → patternsFrom i ≡ les (wordBytes fmt) (entry (exception fmt p (getD vs i 0)) (getD vs i 0)) ++ patternsFrom (i + 1)
@@ -77,7 +77,7 @@ module _ (fmt : Format) (p : Pair) (vs : List ℕ) where
         let v : ℕ = getD vs i 0 in
         let rest : List ℕ = drop (i + 1) vs in
         ap (λ (x : List ℕ). les (wordBytes fmt) (picks (tries fmt p x) x)) (values-next vs i h)
-        ∙ ap (les (wordBytes fmt)) (picks-cons v (exception fmt p v) (whole (scaled fmt p (ofBits fmt v))) (tries fmt p rest) rest)
+        ∙ ap (les (wordBytes fmt)) (picks-cons v (exception fmt p v) (whole fmt (scaled fmt p (ofBits fmt v))) (tries fmt p rest) rest)
         ∙ les-append (wordBytes fmt) (entry (exception fmt p v) v) (picks (tries fmt p rest) rest)
 
     positions-none : length vs ≤ i → positionsFrom i ≡ []

@@ -1,5 +1,5 @@
 -- An encoded vector, and a column cut into vectors: counts, bounds, and what the layout and the reader ask of them. Assumes nothing.
-use mathlib.Core.Path.{_≡_, refl, sym, ap, ap₂, _∙_}
+use mathlib.Core.Path.{_≡_, refl, sym, ap, ap₂, _∙_, subst}
 use Prim.Native.Nat.{ℕ, zero, suc, _+_, _-_, _*_, _/_, _^_, _<_, _≤_, min, zero-le, suc-le-suc}
 use native.Mathlib.Nat.{le-refl, le-trans, lt-of-lt-of-le, le-of-eq, suc-inj, mul-le-mul-right, mul-le-mul-left, div-eq-sub-div, div-eq-of-lt, lt-of-not-le}
 use native.Mathlib.Numerals.{add-one}
@@ -21,11 +21,12 @@ use Rattle.rules.specs.Kind.{word, wordBytes, wordBits, metaBytes, maxS,
 use Rattle.rules.specs.Decimal.{Pair, tried}
 use Rattle.rules.specs.Vector.{Raw, tries, standIn, filled, orElse, least, fieldsOf, widthOf, places, picks, rawOf, encoded, decoded}
 use Rattle.rules.specs.Page.{vectors, sizeOf, starts, encodedAll, pageOf}
+use Rattle.rules.specs.Older.{vectorBy, vectorsBy}
 use Rattle.rules.specs.Write.{Allowed, Inside, bound}
 use Rattle.rules.proofs.Order.{AtMost, least-below, least-one, width-fewest}
 use Rattle.rules.proofs.Fields.{field-lt}
-use Rattle.rules.proofs.Tries.{Held}
-use Rattle.rules.proofs.Vectors.{filled-held, length-fields, vector-back}
+use Rattle.rules.proofs.Tries.{Held, tried-some}
+use Rattle.rules.proofs.Vectors.{ComesBack, turns-filled, turned-back, length-fields}
 use Rattle.rules.proofs.Pages.{Fit, Cut, total, length-layout}
 use Rattle.rules.proofs.Reading.{Sound, Rising}
 
@@ -69,20 +70,62 @@ picks-each P (t ∷ ts) [] h = tt
 picks-each P (none ∷ ts) (v ∷ vs) h = (h .0, picks-each P ts vs (h .1))
 picks-each P (some z ∷ ts) (v ∷ vs) h = picks-each P ts vs (h .1)
 
--- ---- an encoded vector is laid out and read
+-- ---- an encoded vector is laid out and read, by whatever way values are turned that come back
 
-module _ (fmt : Format) (p : Pair) (vs : List ℕ) where
+module _ (fmt : Format) (p : Pair) (turn : ℕ → Option ℤ) (comes : ComesBack fmt p turn) (vs : List ℕ) where
   abbrev ts : List (Option ℤ)
-  ts = tries fmt p vs
+  ts = map turn vs
 
   abbrev zs : List ℤ
   zs = filled ts
 
-  length-tries : length ts ≡ length vs
-  length-tries = length-map vs (tried fmt p)
+  length-turns : length ts ≡ length vs
+  length-turns = length-map vs turn
 
-  pub length-filled : length zs ≡ length vs
-  length-filled = length-map ts (orElse (standIn ts)) ∙ length-tries
+  turned-length : length zs ≡ length vs
+  turned-length = length-map ts (orElse (standIn ts)) ∙ length-turns
+
+  pub turned-count : vectorBy fmt p turn vs .count ≡ length vs
+  unfolding rawOf
+  turned-count = turned-length
+
+  least-held : Held fmt (least zs)
+  least-held = least-one (Held fmt) zs (pow-pos (hbits (word fmt))) (turns-filled fmt p turn comes vs)
+
+  -- a field fits the word
+  turned-below : Each (λ (n : ℕ). n < 2 ^ wordBits fmt) (fieldsOf zs)
+  unfolding fieldsOf
+  turned-below =
+      each-of-map (λ (n : ℕ). n < 2 ^ wordBits fmt) (λ (z : ℤ). natAbs (z -ℤ least zs)) zs
+      (each-map (λ (z : ℤ). AtMost (least zs) z × Held fmt z) (λ (z : ℤ). natAbs (z -ℤ least zs) < 2 ^ wordBits fmt) (λ z h. field-lt (word fmt) (least zs) z (h .0) least-held (h .1)) zs
+      (each-both (AtMost (least zs)) (Held fmt) zs (least-below zs) (turns-filled fmt p turn comes vs)))
+
+  pub turned-sound : Allowed fmt p → Sound fmt (vectorBy fmt p turn vs)
+  unfolding rawOf
+  turned-sound a = record {
+    exponent = a .exponent;
+    factor = a .factor;
+    few = let h = places-few 0 ts in omega (arith, turned-length, length-turns);
+    width = width-fewest (fieldsOf zs) (wordBits fmt) turned-below;
+    rising = places-rising (length zs) 0 ts (omega (arith, turned-length, length-turns));
+  }
+
+  -- a vector's counts and positions are 2 bytes each
+  pub turned-fit : length vs ≤ 2 ^ maxS → Values fmt vs → Fit fmt (vectorBy fmt p turn vs)
+  unfolding rawOf
+  turned-fit short ok = record {
+    listed = let h = places-few 0 ts in omega (arith, length-turns);
+    frame = rw (power-word fmt) (fits-lt-pow (fits-ofZ {w = word fmt} {z = least zs} (record { sfits = least-held })));
+    packed = length-pack (widthOf (fieldsOf zs)) (fieldsOf zs) ∙ ap (λ (n : ℕ). packedSize n (widthOf (fieldsOf zs))) (length-fields zs);
+    positions = rising-below (length vs) 0 (256 ^ 2) (places 0 ts) (omega arith) (places-rising (length vs) 0 ts (omega (arith, length-turns)));
+    paired = picks-paired 0 ts vs length-turns;
+    exceptions = rw (power-word fmt) (picks-each (λ (v : ℕ). v < 2 ^ wordBits fmt) ts vs ok);
+  }
+
+-- by the rule
+module _ (fmt : Format) (p : Pair) (vs : List ℕ) where
+  pub length-filled : length (filled (tries fmt p vs)) ≡ length vs
+  length-filled = turned-length fmt p (tried fmt p) (tried-some fmt p) vs
 
   pub encoded-count : encoded fmt p vs .count ≡ length vs
   unfolding encoded rawOf
@@ -92,39 +135,16 @@ module _ (fmt : Format) (p : Pair) (vs : List ℕ) where
   unfolding encoded rawOf
   encoded-pair = refl
 
-  least-held : Held fmt (least zs)
-  least-held = least-one (Held fmt) zs (pow-pos (hbits (word fmt))) (filled-held fmt p vs)
-
-  -- a field fits the word
-  pub fields-below : Each (λ (n : ℕ). n < 2 ^ wordBits fmt) (fieldsOf zs)
-  unfolding fieldsOf
-  fields-below =
-      each-of-map (λ (n : ℕ). n < 2 ^ wordBits fmt) (λ (z : ℤ). natAbs (z -ℤ least zs)) zs
-      (each-map (λ (z : ℤ). AtMost (least zs) z × Held fmt z) (λ (z : ℤ). natAbs (z -ℤ least zs) < 2 ^ wordBits fmt) (λ z h. field-lt (word fmt) (least zs) z (h .0) least-held (h .1)) zs
-      (each-both (AtMost (least zs)) (Held fmt) zs (least-below zs) (filled-held fmt p vs)))
+  pub fields-below : Each (λ (n : ℕ). n < 2 ^ wordBits fmt) (fieldsOf (filled (tries fmt p vs)))
+  fields-below = turned-below fmt p (tried fmt p) (tried-some fmt p) vs
 
   pub encoded-sound : Allowed fmt p → Sound fmt (encoded fmt p vs)
-  unfolding encoded rawOf
-  encoded-sound a = record {
-    exponent = a .exponent;
-    factor = a .factor;
-    few = let h = places-few 0 ts in omega (arith, length-filled, length-tries);
-    width = width-fewest (fieldsOf zs) (wordBits fmt) fields-below;
-    rising = places-rising (length zs) 0 ts (omega (arith, length-filled, length-tries));
-  }
+  unfolding encoded
+  encoded-sound a = turned-sound fmt p (tried fmt p) (tried-some fmt p) vs a
 
-  -- a vector's counts and positions are 2 bytes each
-  module _ (short : length vs ≤ 2 ^ maxS) (ok : Values fmt vs) where
-    pub encoded-fit : Fit fmt (encoded fmt p vs)
-    unfolding encoded rawOf
-    encoded-fit = record {
-      listed = let h = places-few 0 ts in omega (arith, length-tries);
-      frame = rw (power-word fmt) (fits-lt-pow (fits-ofZ {w = word fmt} {z = least zs} (record { sfits = least-held })));
-      packed = length-pack (widthOf (fieldsOf zs)) (fieldsOf zs) ∙ ap (λ (n : ℕ). packedSize n (widthOf (fieldsOf zs))) (length-fields zs);
-      positions = rising-below (length vs) 0 (256 ^ 2) (places 0 ts) (omega arith) (places-rising (length vs) 0 ts (omega (arith, length-tries)));
-      paired = picks-paired 0 ts vs length-tries;
-      exceptions = rw (power-word fmt) (picks-each (λ (v : ℕ). v < 2 ^ wordBits fmt) ts vs ok);
-    }
+  pub encoded-fit : length vs ≤ 2 ^ maxS → Values fmt vs → Fit fmt (encoded fmt p vs)
+  unfolding encoded
+  encoded-fit short ok = turned-fit fmt p (tried fmt p) (tried-some fmt p) vs short ok
 
 -- ---- the values, cut into vectors
 
@@ -157,41 +177,63 @@ covers size (suc n) [] z e = let c = ceil-more size (suc n) z (omega arith) in a
 covers size zero (p ∷ ps) z e = let c : ceil size zero ≡ 0 = div-eq-of-lt (omega arith) in absurd (omega (arith, e, c))
 covers size (suc n) (p ∷ ps) z e = (omega arith, covers size (suc n - size) ps z (suc-inj (e ∙ ceil-more size (suc n) z (omega arith))))
 
-module _ (fmt : Format) (size : ℕ) (small : size ≤ 2 ^ maxS) where
-  part-short : (vs : List ℕ) → length (take size vs) ≤ 2 ^ maxS
-  part-short vs = rw length-take (omega arith)
+module _ (fmt : Format) (turn : Pair → ℕ → Option ℤ) (comes : (p : Pair) → ComesBack fmt p (turn p)) (size : ℕ) where
+  pub by-length : (ps : List Pair) (vs : List ℕ) → length (vectorsBy fmt turn size ps vs) ≡ length ps
+  unfolding vectorsBy
+  by-length [] vs = refl
+  by-length (p ∷ ps) vs = ap suc (by-length ps (drop size vs))
 
-  pub length-all : (ps : List Pair) (vs : List ℕ) → length (encodedAll fmt size ps vs) ≡ length ps
-  unfolding encodedAll
-  length-all [] vs = refl
-  length-all (p ∷ ps) vs = ap suc (length-all ps (drop size vs))
-
-  pub all-cut : (ps : List Pair) (vs : List ℕ) → Values fmt vs → Covers size (length vs) ps → Cut size (length vs) (encodedAll fmt size ps vs)
-  unfolding encodedAll
-  all-cut [] vs ok c = c
-  all-cut (p ∷ ps) vs ok c = (
-    encoded-count fmt p (take size vs) ∙ length-take size vs,
+  pub by-cut : (ps : List Pair) (vs : List ℕ) → Covers size (length vs) ps → Cut size (length vs) (vectorsBy fmt turn size ps vs)
+  unfolding vectorsBy
+  by-cut [] vs c = c
+  by-cut (p ∷ ps) vs c = (
+    turned-count fmt p (turn p) (comes p) (take size vs) ∙ length-take size vs,
     c .0,
-    rw (← length-drop size vs) (all-cut ps (drop size vs) (each-drop (λ (v : ℕ). v < 2 ^ wordBits fmt) size vs ok) (rw length-drop (c .1))),
+    rw (← length-drop size vs) (by-cut ps (drop size vs) (rw length-drop (c .1))),
   )
 
-  pub all-fit : (ps : List Pair) (vs : List ℕ) → Values fmt vs → Each (Fit fmt) (encodedAll fmt size ps vs)
-  unfolding encodedAll
-  all-fit [] vs ok = tt
-  all-fit (p ∷ ps) vs ok = (encoded-fit fmt p (take size vs) (part-short vs) (each-take (λ (v : ℕ). v < 2 ^ wordBits fmt) size vs ok), all-fit ps (drop size vs) (each-drop (λ (v : ℕ). v < 2 ^ wordBits fmt) size vs ok))
+  pub by-fit : size ≤ 2 ^ maxS → (ps : List Pair) (vs : List ℕ) → Values fmt vs → Each (Fit fmt) (vectorsBy fmt turn size ps vs)
+  unfolding vectorsBy
+  by-fit small [] vs ok = tt
+  by-fit small (p ∷ ps) vs ok = (
+    turned-fit fmt p (turn p) (comes p) (take size vs) (rw length-take (omega arith)) (each-take (λ (v : ℕ). v < 2 ^ wordBits fmt) size vs ok),
+    by-fit small ps (drop size vs) (each-drop (λ (v : ℕ). v < 2 ^ wordBits fmt) size vs ok),
+  )
 
-  pub all-sound : (ps : List Pair) (vs : List ℕ) → Each (Allowed fmt) ps → Values fmt vs → Each (Sound fmt) (encodedAll fmt size ps vs)
-  unfolding encodedAll
-  all-sound [] vs a ok = tt
-  all-sound (p ∷ ps) vs a ok = (encoded-sound fmt p (take size vs) (a .0), all-sound ps (drop size vs) (a .1) (each-drop (λ (v : ℕ). v < 2 ^ wordBits fmt) size vs ok))
+  pub by-sound : (ps : List Pair) (vs : List ℕ) → Each (Allowed fmt) ps → Each (Sound fmt) (vectorsBy fmt turn size ps vs)
+  unfolding vectorsBy
+  by-sound [] vs a = tt
+  by-sound (p ∷ ps) vs a = (turned-sound fmt p (turn p) (comes p) (take size vs) (a .0), by-sound ps (drop size vs) (a .1))
 
-  pub all-back : (ps : List Pair) (vs : List ℕ) → Covers size (length vs) ps → join (map (decoded fmt) (encodedAll fmt size ps vs)) ≡ vs
-  unfolding encodedAll
-  all-back [] [] c = refl
-  all-back [] (v ∷ vs) c = absurd (omega (arith, c))
-  all-back (p ∷ ps) vs c =
-      ap₂ (λ (x y : List ℕ). x ++ y) (vector-back fmt p (take size vs)) (all-back ps (drop size vs) (rw length-drop (c .1)))
+  pub by-back : (ps : List Pair) (vs : List ℕ) → Covers size (length vs) ps → join (map (decoded fmt) (vectorsBy fmt turn size ps vs)) ≡ vs
+  unfolding vectorsBy
+  by-back [] [] c = refl
+  by-back [] (v ∷ vs) c = absurd (omega (arith, c))
+  by-back (p ∷ ps) vs c =
+      ap₂ (λ (x y : List ℕ). x ++ y) (turned-back fmt p (turn p) (comes p) (take size vs)) (by-back ps (drop size vs) (rw length-drop (c .1)))
       ∙ take-append-drop size vs
+
+-- by the rule
+pub all-by : (fmt : Format) (size : ℕ) (ps : List Pair) (vs : List ℕ) → vectorsBy fmt (tried fmt) size ps vs ≡ encodedAll fmt size ps vs
+unfolding vectorsBy encodedAll encoded
+all-by fmt size [] vs = refl
+all-by fmt size (p ∷ ps) vs = ap (λ (rs : List Raw). encoded fmt p (take size vs) ∷ rs) (all-by fmt size ps (drop size vs))
+
+module _ (fmt : Format) (size : ℕ) (ps : List Pair) (vs : List ℕ) where
+  pub length-all : length (encodedAll fmt size ps vs) ≡ length ps
+  length-all = ap length (sym (all-by fmt size ps vs)) ∙ by-length fmt (tried fmt) (tried-some fmt) size ps vs
+
+  pub all-cut : Covers size (length vs) ps → Cut size (length vs) (encodedAll fmt size ps vs)
+  all-cut c = subst (Cut size (length vs)) (all-by fmt size ps vs) (by-cut fmt (tried fmt) (tried-some fmt) size ps vs c)
+
+  pub all-fit : size ≤ 2 ^ maxS → Values fmt vs → Each (Fit fmt) (encodedAll fmt size ps vs)
+  all-fit small ok = subst (Each (Fit fmt)) (all-by fmt size ps vs) (by-fit fmt (tried fmt) (tried-some fmt) size small ps vs ok)
+
+  pub all-sound : Each (Allowed fmt) ps → Each (Sound fmt) (encodedAll fmt size ps vs)
+  all-sound a = subst (Each (Sound fmt)) (all-by fmt size ps vs) (by-sound fmt (tried fmt) (tried-some fmt) size ps vs a)
+
+  pub all-back : Covers size (length vs) ps → join (map (decoded fmt) (encodedAll fmt size ps vs)) ≡ vs
+  all-back c = ap (λ (rs : List Raw). join (map (decoded fmt) rs)) (sym (all-by fmt size ps vs)) ∙ by-back fmt (tried fmt) (tried-some fmt) size ps vs c
 
 -- ---- the size of a page
 
@@ -232,10 +274,10 @@ module _ (fmt : Format) (s : ℕ) (ps : List Pair) (vs : List ℕ) (i : Inside f
   page-fits =
       let rs : List Raw = encodedAll fmt (2 ^ s) ps vs in
       let small : 2 ^ s ≤ 2 ^ maxS = pow-mono (i .high) in
-      let cut : Cut (2 ^ s) (length vs) rs = all-cut fmt (2 ^ s) small ps vs ok (covers (2 ^ s) (length vs) ps (pow-pos s) (i .one-each)) in
-      let count : vectors s (length vs) ≡ length rs = sym (length-all fmt (2 ^ s) small ps vs ∙ i .one-each) in
-      let t = total-bound fmt (2 ^ s) (length vs) rs cut (all-sound fmt (2 ^ s) small ps vs (i .allowed) ok) in
-      rw (length-layout fmt s (length vs) rs (all-fit fmt (2 ^ s) small ps vs ok), count) (room (length rs) (total fmt rs) (metaBytes fmt) (length vs * (2 * wordBytes fmt + 2)) t)
+      let cut : Cut (2 ^ s) (length vs) rs = all-cut fmt (2 ^ s) ps vs (covers (2 ^ s) (length vs) ps (pow-pos s) (i .one-each)) in
+      let count : vectors s (length vs) ≡ length rs = sym (length-all fmt (2 ^ s) ps vs ∙ i .one-each) in
+      let t = total-bound fmt (2 ^ s) (length vs) rs cut (all-sound fmt (2 ^ s) ps vs (i .allowed)) in
+      rw (length-layout fmt s (length vs) rs (all-fit fmt (2 ^ s) ps vs small ok), count) (room (length rs) (total fmt rs) (metaBytes fmt) (length vs * (2 * wordBytes fmt + 2)) t)
     where
       room : (l t m n : ℕ) → t ≤ l * m + n → 8 + (4 * l + t) ≤ 8 + l * (4 + m) + n
       room l t m n h = omega arith

@@ -128,7 +128,7 @@ negPower-positive fmt k h =
     positive-of-value (negPower fmt k) (n .units) (2 ^ n .place) (n .value) (lt-of-lt-of-le (pow-pos (prec fmt - 1)) (n .all-digits))
 
 -- ---- no NaN
-abbrev NoNan : Float → Type 0
+abbrev pub NoNan : Float → Type 0
 NoNan x = T (not (isNan x))
 
 odd-real : (d : ℕ) (s : Bool) (q k l : ℕ) → NoNan (odd d s q k l)
@@ -144,7 +144,7 @@ units-real fmt s q k = go (ltb (q * 2 ^ k) (2 ^ (low fmt + suc (emax fmt))))
     go true = odd-real (suc (prec fmt)) s q k (low fmt)
     go false = tt
 
-round-real : (fmt : Format) (s : Bool) (a b : ℕ) → NoNan (round fmt s a b)
+pub round-real : (fmt : Format) (s : Bool) (a b : ℕ) → NoNan (round fmt s a b)
 round-real fmt s a b = subst NoNan (sym (round-is fmt s a b)) (units-real fmt s (kept (prec fmt) (a * 2 ^ low fmt) b) (drop (prec fmt) (a * 2 ^ low fmt) b))
 
 not-zero : (n : ℕ) → T (ltb 0 n) → T (not (eqb n 0))
@@ -219,7 +219,7 @@ at-most-finite h nan l = l
 at-most-finite h (inf s) l = l
 at-most-finite h (fin s m e) l = tt
 
-closest-whole : (n : ℕ) → closest n 1 ≡ n
+pub closest-whole : (n : ℕ) → closest n 1 ≡ n
 closest-whole n = ap (λ (r : ℕ). nearest (n / 1) (compare (r * 2) 1)) (mod-one n) ∙ div-one n
 
 -- rounding does not pass a power of two that the kind holds

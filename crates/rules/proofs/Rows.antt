@@ -37,6 +37,10 @@ pub row-first : (a : ℕ) (p : Point) (b : Bool) (y : Verdict) → first (verdic
 row-first a p true y e = let o : _≡_ {A = ℕ} 0 1 = cc in absurd (omega arith)
 row-first a p false y e = (refl, e)
 
+pub first-end : (x : Verdict) → first x fine ≡ x
+first-end fine = refl
+first-end (refuse a p) = refl
+
 pub first-first : (x y z : Verdict) → first (first x y) z ≡ first x (first y z)
 first-first fine y z = refl
 first-first (refuse a p) y z = refl

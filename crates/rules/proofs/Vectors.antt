@@ -15,6 +15,7 @@ use Rattle.digits.proofs.Lists.{each-map, each-both, each-below}
 use Rattle.digits.proofs.Pack.{unpack-pack}
 use Rattle.rules.specs.Decimal.{Pair, tried, back}
 use Rattle.rules.specs.Vector.{tries, filled, standIn, orElse, least, fieldsOf, widthOf, places, picks, rawOf, encoded, fields, wholes, marks, marked, decoded}
+use Rattle.rules.specs.Older.{vectorBy}
 use Rattle.rules.proofs.Fields.{field-back}
 use Rattle.rules.proofs.Order.{AtMost, width-holds, least-below, least-one}
 use Rattle.rules.proofs.Tries.{Held, tried-some}
@@ -59,34 +60,46 @@ fill-held P d [] o h = tt
 fill-held P d (none ∷ ts) o h = (o, fill-held P d ts o (h .1))
 fill-held P d (some z ∷ ts) o h = (h .0 z refl, fill-held P d ts o (h .1))
 
-module _ (fmt : Format) (p : Pair) where
-  tries-held : (vs : List ℕ) → Each (λ (t : Option ℤ). (z : ℤ) → t ≡ some z → Held fmt z) (tries fmt p vs)
-  tries-held [] = tt
-  tries-held (v ∷ vs) = (λ z e. (tried-some fmt p v z e) .1, tries-held vs)
+-- what turning values into whole numbers has to be for a vector to be decoded again: a whole number comes back as the value, and is held
+abbrev pub ComesBack : Format → Pair → (ℕ → Option ℤ) → Type 0
+ComesBack fmt p turn = (v : ℕ) (z : ℤ) → turn v ≡ some z → (back fmt p z ≡ v) × Held fmt z
 
-  pub filled-held : (vs : List ℕ) → Each (Held fmt) (filled (tries fmt p vs))
-  filled-held vs =
-      fill-held (Held fmt) (standIn (tries fmt p vs)) (tries fmt p vs)
-      (standIn-one (Held fmt) (tries fmt p vs) (pow-pos (hbits (word fmt))) (tries-held vs)) (tries-held vs)
+module _ (fmt : Format) (p : Pair) (turn : ℕ → Option ℤ) (comes : ComesBack fmt p turn) where
+  turns-held : (vs : List ℕ) → Each (λ (t : Option ℤ). (z : ℤ) → t ≡ some z → Held fmt z) (map turn vs)
+  turns-held [] = tt
+  turns-held (v ∷ vs) = (λ z e. comes v z e .1, turns-held vs)
 
-  zip-back : (d : ℤ) (vs : List ℕ) → zipWith (λ (z : ℤ) (m : Option ℕ). orElse (back fmt p z) m) (map (orElse d) (tries fmt p vs)) (zipWith mark (tries fmt p vs) vs) ≡ vs
+  pub turns-filled : (vs : List ℕ) → Each (Held fmt) (filled (map turn vs))
+  turns-filled vs =
+      fill-held (Held fmt) (standIn (map turn vs)) (map turn vs) (standIn-one (Held fmt) (map turn vs) (pow-pos (hbits (word fmt))) (turns-held vs)) (turns-held vs)
+
+  abbrev value : ℤ → Option ℕ → ℕ
+  value z m = orElse (back fmt p z) m
+
+  zip-back : (d : ℤ) (vs : List ℕ) → zipWith value (map (orElse d) (map turn vs)) (zipWith mark (map turn vs) vs) ≡ vs
   unfolding zipWith
   zip-back d [] = refl
-  zip-back d (v ∷ vs) = go (tried fmt p v) refl (zip-back d vs)
+  zip-back d (v ∷ vs) = go (turn v) refl (zip-back d vs)
     where
-      go : (t : Option ℤ) → tried fmt p v ≡ t
-          → zipWith (λ (z : ℤ) (m : Option ℕ). orElse (back fmt p z) m) (map (orElse d) (tries fmt p vs)) (zipWith mark (tries fmt p vs) vs) ≡ vs
-          → _≡_ {A = List ℕ} (orElse (back fmt p (orElse d t)) (mark t v) ∷ zipWith (λ (z : ℤ) (m : Option ℕ). orElse (back fmt p z) m) (map (orElse d) (tries fmt p vs)) (zipWith mark (tries fmt p vs) vs)) (v ∷ vs)
+      go : (t : Option ℤ) → turn v ≡ t → zipWith value (map (orElse d) (map turn vs)) (zipWith mark (map turn vs) vs) ≡ vs
+          → _≡_ {A = List ℕ} (value (orElse d t) (mark t v) ∷ zipWith value (map (orElse d) (map turn vs)) (zipWith mark (map turn vs) vs)) (v ∷ vs)
       go none e ih = ap (λ (l : List ℕ). v ∷ l) ih
-      go (some z) e ih = ap₂ (λ (x : ℕ) (l : List ℕ). x ∷ l) ((tried-some fmt p v z e) .0) ih
+      go (some z) e ih = ap₂ (λ (x : ℕ) (l : List ℕ). x ∷ l) (comes v z e .0) ih
 
-  pub vector-back : (vs : List ℕ) → decoded fmt (encoded fmt p vs) ≡ vs
-  unfolding decoded encoded marked rawOf
-  vector-back vs =
-      let ts : List (Option ℤ) = tries fmt p vs in
+  pub turned-back : (vs : List ℕ) → decoded fmt (vectorBy fmt p turn vs) ≡ vs
+  unfolding decoded marked rawOf
+  turned-back vs =
+      let ts : List (Option ℤ) = map turn vs in
       let zs : List ℤ = filled ts in
-      let g : ℤ → Option ℕ → ℕ = λ z m. orElse (back fmt p z) m in
-      let n : length zs ≡ length vs = length-map ts (orElse (standIn ts)) ∙ length-map vs (tried fmt p) in
-      ap (λ (l : List ℤ). zipWith g l (marks (places 0 ts) (picks ts vs) 0 (length zs))) (wholes-back fmt p zs (places 0 ts) (picks ts vs) (filled-held vs))
-      ∙ ap (zipWith g zs) (ap (marks (places 0 ts) (picks ts vs) 0) n ∙ marks-back 0 ts vs (length-map vs (tried fmt p)))
+      let n : length zs ≡ length vs = length-map ts (orElse (standIn ts)) ∙ length-map vs turn in
+      ap (λ (l : List ℤ). zipWith value l (marks (places 0 ts) (picks ts vs) 0 (length zs))) (wholes-back fmt p zs (places 0 ts) (picks ts vs) (turns-filled vs))
+      ∙ ap (zipWith value zs) (ap (marks (places 0 ts) (picks ts vs) 0) n ∙ marks-back 0 ts vs (length-map vs turn))
       ∙ zip-back (standIn ts) vs
+
+-- by the rule
+pub filled-held : (fmt : Format) (p : Pair) (vs : List ℕ) → Each (Held fmt) (filled (tries fmt p vs))
+filled-held fmt p vs = turns-filled fmt p (tried fmt p) (tried-some fmt p) vs
+
+pub vector-back : (fmt : Format) (p : Pair) (vs : List ℕ) → decoded fmt (encoded fmt p vs) ≡ vs
+unfolding encoded
+vector-back fmt p vs = turned-back fmt p (tried fmt p) (tried-some fmt p) vs

@@ -1,13 +1,12 @@
--- From a value to a whole number and back (document 01, "From a value to a whole number"). A value comes as its bit pattern b;
--- the floats and their multiplication are the toolchain's reading of IEEE 754 (lib.Ieee). Assumes nothing.
-use Prim.Native.Nat.{ℕ, _*_, _^_}
+-- From a value to a whole number and back (document 01, "From a value to a whole number", rounded as document 02, T-05 says). A value comes
+-- as its bit pattern b; the floats and their operations are the toolchain's reading of IEEE 754 (lib.Ieee). Assumes nothing.
+use Prim.Native.Nat.{ℕ, _*_, _/_, _^_}
 use mathlib.Core.Bool.{Bool, true, false, not, _&&_, _||_, cond}
 use mathlib.Core.Option.{Option, none, some}
 use lib.Dec.{ltb, eqb}
 use lib.IntN.{ℤ, pos, negℤ}
-use lib.Ieee.{Format, Float, nan, inf, fin, up, down, isNan, round, mul, ofInt, ofBits, toBits}
-use lib.Ieee.Nearest.{closest}
-use Rattle.rules.specs.Kind.{maxScaled}
+use lib.Ieee.{Format, Float, nan, inf, fin, up, down, isNan, round, add, sub, mul, ofInt, ofBits, toBits}
+use Rattle.rules.specs.Kind.{maxScaled, roundingConstant}
 
 -- exponent and factor of a vector
 pub record Pair : Type 0 where
@@ -29,11 +28,20 @@ abbrev pub signed : Bool → ℕ → ℤ
 signed true n = negℤ (pos n)
 signed false n = pos n
 
--- whole number: the scaled value rounded to the nearest whole number, ties to even (0 where there is none: such a value is an exception)
-unfoldable pub whole : Float → ℤ
-whole nan = pos 0
-whole (inf s) = pos 0
-whole (fin s m e) = signed s (closest (m * up e) (down e))
+-- rounded value: the scaled value plus the constant, then minus the constant, each rounded once. Near zero that is the nearest whole
+-- number, ties to even; from 2^22 or 2^51 on it need not be, and below zero a fraction may be left (theorems/proofs/Fast)
+unfoldable pub rounded : Format → Float → Float
+rounded fmt y = let c = ofInt fmt (pos (roundingConstant fmt)) in sub fmt (add fmt y c) c
+
+-- a float without its fraction (0 where there is no number: such a value is an exception)
+unfoldable pub truncated : Float → ℤ
+truncated nan = pos 0
+truncated (inf s) = pos 0
+truncated (fin s m e) = signed s (m * up e / down e)
+
+-- whole number: the rounded value, any fraction dropped
+unfoldable pub whole : Format → Float → ℤ
+whole fmt y = truncated (rounded fmt y)
 
 -- back: the whole number as the nearest float of the kind, times 10^f, then times 10^-e, each rounded once; its bits
 unfoldable pub back : Format → Pair → ℤ → ℕ
@@ -55,19 +63,19 @@ beyond fmt nan = true
 beyond fmt (inf s) = true
 beyond fmt (fin s m e) = ltb (maxScaled fmt * down e) (m * up e)
 
--- the exception rule: the value is a NaN, is infinite, is negative zero, has a scaled value that is infinite or of magnitude above L,
--- or does not come back with the same bits
+-- the exception rule: the value is a NaN, is infinite, is negative zero, has a scaled value that is infinite or of magnitude above L, has
+-- a rounded value that is, or does not come back with the same bits
 unfoldable pub exception : Format → Pair → ℕ → Bool
 exception fmt p b =
     let x = ofBits fmt b in
     let y = scaled fmt p x in
-    isNan x || isInfinite x || isNegativeZero x || beyond fmt y || not (eqb (back fmt p (whole y)) b)
+    isNan x || isInfinite x || isNegativeZero x || beyond fmt y || beyond fmt (rounded fmt y) || not (eqb (back fmt p (whole fmt y)) b)
 
 -- the whole number of a value, or none where the value is an exception
 unfoldable pub tried : Format → Pair → ℕ → Option ℤ
-tried fmt p b = cond (exception fmt p b) none (some (whole (scaled fmt p (ofBits fmt b))))
+tried fmt p b = cond (exception fmt p b) none (some (whole fmt (scaled fmt p (ofBits fmt b))))
 
 -- to unfold this is to unfold all of the above
 unfoldable pub allDecimal : Unit {0}
-unfolding power negPower scaled whole back beyond exception tried isNan round mul ofInt ofBits toBits
+unfolding power negPower scaled rounded truncated whole back beyond exception tried isNan round add sub mul ofInt ofBits toBits
 allDecimal = tt

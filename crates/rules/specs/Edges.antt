@@ -5,9 +5,13 @@ use mathlib.Core.Path.{_≡_, refl}
 use mathlib.Core.Bool.{true}
 use mathlib.Core.List.{List, [], _∷_, _++_}
 use lib.ListN.{replicate}
-use lib.Ieee.{binary32, binary64}
+use lib.IntN.{ℤ, pos, negℤ}
+use lib.Ieee.{Format, binary32, binary64}
+use mir.Val.{ofZ}
+use Rattle.digits.specs.Digits.{le}
+use Rattle.rules.specs.Kind.{word, wordBytes}
 use Rattle.rules.specs.Verdict.{the-page, in-vector, in-vector-at, done, refused, done-with, refusal}
-use Rattle.rules.specs.Recordings.{hex, Line, writes, measures, reads, reads-vector, examines, chooses, written, flawed, faulty, allHold, allRules}
+use Rattle.rules.specs.Recordings.{hex, Line, writes, measures, reads, reads-vector, examines, chooses, written, flawed, moved, faulty, allHold, allRules}
 use Rattle.rules.specs.declared.Choice.{Choice}
 
 -- ---- parts that many pages share, so that a line shows what is its own
@@ -24,6 +28,16 @@ behind n =
 abbrev pub sevens : List ℕ
 sevens = replicate 8 0x40E00000
 
+-- a page of one value with its pair: the value turns into a whole number, or it is listed
+abbrev pub turns : Format → ℕ → ℕ → ℕ → ℤ → Line
+turns fmt e f v z =
+    written fmt 10 (e ∷ f ∷ []) (v ∷ []) (front 1 ++ (e ∷ f ∷ hex 2 0x00_00) ++ le (wordBytes fmt) (ofZ (word fmt) z) ++ hex 1 0x00)
+
+abbrev pub lists : Format → ℕ → ℕ → ℕ → Line
+lists fmt e f v =
+    written fmt 10 (e ∷ f ∷ []) (v ∷ [])
+    (front 1 ++ (e ∷ f ∷ hex 2 0x01_00) ++ hex (wordBytes fmt + 1) 0 ++ hex 2 0x00_00 ++ le (wordBytes fmt) v)
+
 -- n positions from i on, two bytes each (below 256)
 unfoldable pub rising : ℕ → ℕ → List ℕ
 rising i zero = []
@@ -33,20 +47,20 @@ rising i (suc n) = i ∷ 0 ∷ rising (suc i) n
 
 unfoldable pub arithmetic : List Line
 arithmetic =
-    -- 481.9323, e 5, f 1: 4,819,323.5 after two multiplications, and so 4,819,324, which does not come back; after one, 4,819,323, which would
-    written binary32 10 (5 ∷ 1 ∷ []) (0x43F0F756 ∷ [])
-    (front 1 ++ hex 4 0x05_01_01_00 ++ hex 5 0x00_00_00_00_00 ++ hex 2 0x00_00 ++ hex 4 0x56_F7_F0_43)
-    -- 1483887.625, e 2, f 1: 14,838,877 after two multiplications, 14,838,876 after one
-    ∷ written binary32 10 (2 ∷ 1 ∷ []) (0x49B5237D ∷ []) (front 1 ++ hex 4 0x02_01_00_00 ++ hex 5 0x5D_6C_E2_00_00)
-    -- 64-bit 2390.338921458191, e 13, f 1: as in the first line, with 2,390,338,921,458,191.5 after two multiplications
-    ∷ written binary64 10 (13 ∷ 1 ∷ []) (0x40A2ACAD871D05B0 ∷ [])
-    (front 1 ++ hex 4 0x0D_01_01_00 ++ hex 9 0x00_00_00_00_00_00_00_00_00 ++ hex 2 0x00_00 ++ hex 8 0xB0_05_1D_87_AD_AC_A2_40)
-    -- 5751.0, e 5, f 1: 57,510,004 where each product is rounded, 57,510,000 where only the last is
-    ∷ written binary32 10 (5 ∷ 1 ∷ []) (0x45B3B800 ∷ []) (front 1 ++ hex 4 0x05_01_00_00 ++ hex 5 0x74_88_6D_03_00)
-    -- 64-bit 684.2, e 14, f 1: 6,842,000,000,000,001 after two multiplications, one less after one
-    ∷ written binary64 10 (14 ∷ 1 ∷ []) (0x408561999999999A ∷ []) (front 1 ++ hex 4 0x0E_01_00_00 ++ hex 9 0x01_A0_8D_43_C3_4E_18_00_00)
-    -- 94.0, e 6, f 1: 9,400,000; an exception if 10^-f came first
-    ∷ written binary32 10 (6 ∷ 1 ∷ []) (0x42BC0000 ∷ []) (front 1 ++ hex 4 0x06_01_00_00 ++ hex 5 0xC0_6E_8F_00_00)
+    -- 34.46559, e 8, f 3: 3,446,559.5 after two multiplications, and so 3,446,560, which does not come back; after one, 3,446,559, which would
+    written binary32 10 (8 ∷ 3 ∷ []) (0x4209DCC4 ∷ [])
+    (front 1 ++ hex 4 0x08_03_01_00 ++ hex 5 0x00_00_00_00_00 ++ hex 2 0x00_00 ++ hex 4 0xC4_DC_09_42)
+    -- -1483887.625, e 2, f 1: -14,838,877 after two multiplications, -14,838,876 after one; above zero the constant would hide it
+    ∷ written binary32 10 (2 ∷ 1 ∷ []) (0xC9B5237D ∷ []) (front 1 ++ hex 4 0x02_01_00_00 ++ hex 5 0xA3_93_1D_FF_00)
+    -- 64-bit 2096.520641153297, e 17, f 5: as in the first line, with 2,096,520,641,153,297.5 after two multiplications
+    ∷ written binary64 10 (17 ∷ 5 ∷ []) (0x40A0610A917A2CBA ∷ [])
+    (front 1 ++ hex 4 0x11_05_01_00 ++ hex 9 0x00_00_00_00_00_00_00_00_00 ++ hex 2 0x00_00 ++ hex 8 0xBA_2C_7A_91_0A_61_A0_40)
+    -- -5751.0, e 5, f 1: -57,510,004 where each product is rounded, -57,510,000 where only the last is
+    ∷ written binary32 10 (5 ∷ 1 ∷ []) (0xC5B3B800 ∷ []) (front 1 ++ hex 4 0x05_01_00_00 ++ hex 5 0x8C_77_92_FC_00)
+    -- 64-bit -684.2, e 14, f 1: -6,842,000,000,000,001 after two multiplications, one more after one
+    ∷ written binary64 10 (14 ∷ 1 ∷ []) (0xC08561999999999A ∷ []) (front 1 ++ hex 4 0x0E_01_00_00 ++ hex 9 0xFF_5F_72_BC_3C_B1_E7_FF_00)
+    -- -94.0, e 6, f 1: -9,400,000; an exception if 10^-f came first
+    ∷ written binary32 10 (6 ∷ 1 ∷ []) (0xC2BC0000 ∷ []) (front 1 ++ hex 4 0x06_01_00_00 ++ hex 5 0x40_91_70_FF_00)
     -- 4980337.0, e 2, f 1: 49,803,372 by the nearest float to 0.1; an exception by a division by 10
     ∷ written binary32 10 (2 ∷ 1 ∷ []) (0x4A97FCE2 ∷ []) (front 1 ++ hex 4 0x02_01_00_00 ++ hex 5 0x6C_F0_F7_02_00)
     -- 0.9, e 1: 9 times the nearest float to 0.1 is another value; a division by 10 would bring it back
@@ -59,19 +73,19 @@ arithmetic =
     (front 1 ++ hex 4 0x01_00_01_00 ++ hex 9 0x00_00_00_00_00_00_00_00_00 ++ hex 2 0x00_00 ++ hex 8 0x33_33_33_33_33_33_D3_3F)
     -- 64-bit 0.3, e 2, f 1: 3
     ∷ written binary64 10 (2 ∷ 1 ∷ []) (0x3FD3333333333333 ∷ []) (front 1 ++ hex 4 0x02_01_00_00 ++ hex 9 0x03_00_00_00_00_00_00_00_00)
-    -- 8359.9, e 3: 8,359,900.5, a tie, to even, which is down
-    ∷ written binary32 10 (3 ∷ 0 ∷ []) (0x46029F9A ∷ []) (front 1 ++ hex 4 0x03_00_00_00 ++ hex 5 0xDC_8F_7F_00_00)
-    -- 79321.3, e 2: 7,932,129.5, a tie, to even, which is up
-    ∷ written binary32 10 (2 ∷ 0 ∷ []) (0x479AECA6 ∷ []) (front 1 ++ hex 4 0x02_00_00_00 ++ hex 5 0xE2_08_79_00_00)
-    -- -8359.9, e 3: the same below zero
-    ∷ written binary32 10 (3 ∷ 0 ∷ []) (0xC6029F9A ∷ []) (front 1 ++ hex 4 0x03_00_00_00 ++ hex 5 0x24_70_80_FF_00)
-    -- 71874.41, e 2: 7,187,440.5, to even 7,187,440, which does not come back; 7,187,441 would
-    ∷ written binary32 10 (2 ∷ 0 ∷ []) (0x478C6134 ∷ [])
-    (front 1 ++ hex 4 0x02_00_01_00 ++ hex 5 0x00_00_00_00_00 ++ hex 2 0x00_00 ++ hex 4 0x34_61_8C_47)
-    -- 64-bit 39400880.402, e 8: 3,940,088,040,200,000.5, a tie, down
-    ∷ written binary64 10 (8 ∷ 0 ∷ []) (0x4182C9AD83374BC7 ∷ []) (front 1 ++ hex 4 0x08_00_00_00 ++ hex 9 0x40_17_05_3C_7D_FF_0D_00_00)
-    -- 64-bit 346274320.55028, e 7: 3,462,743,205,502,799.5, a tie, up
-    ∷ written binary64 10 (7 ∷ 0 ∷ []) (0x41B4A3BA108CDF26 ∷ []) (front 1 ++ hex 4 0x07_00_00_00 ++ hex 9 0x50_5F_B6_BA_58_4D_0C_00_00)
+    -- 0.36, e 10, f 3: 3,600,000.5, a tie, to even, which is down
+    ∷ written binary32 10 (10 ∷ 3 ∷ []) (0x3EB851EC ∷ []) (front 1 ++ hex 4 0x0A_03_00_00 ++ hex 5 0x80_EE_36_00_00)
+    -- 4.141, e 8, f 2: 4,140,999.5, a tie, to even, which is up
+    ∷ written binary32 10 (8 ∷ 2 ∷ []) (0x40848312 ∷ []) (front 1 ++ hex 4 0x08_02_00_00 ++ hex 5 0xC8_2F_3F_00_00)
+    -- -0.36, e 10, f 3: the first of the two below zero
+    ∷ written binary32 10 (10 ∷ 3 ∷ []) (0xBEB851EC ∷ []) (front 1 ++ hex 4 0x0A_03_00_00 ++ hex 5 0x80_11_C9_FF_00)
+    -- 35192.547, e 8, f 6: 3,519,254.5, to even 3,519,254, which does not come back; 3,519,255 would
+    ∷ written binary32 10 (8 ∷ 6 ∷ []) (0x4709788C ∷ [])
+    (front 1 ++ hex 4 0x08_06_01_00 ++ hex 5 0x00_00_00_00_00 ++ hex 2 0x00_00 ++ hex 4 0x8C_78_09_47)
+    -- 64-bit 2105674.99, e 18, f 9: 2,105,674,990,000,000.5, a tie, down
+    ∷ written binary64 10 (18 ∷ 9 ∷ []) (0x414010A57EB851EC ∷ []) (front 1 ++ hex 4 0x12_09_00_00 ++ hex 9 0x80_97_CA_A9_19_7B_07_00_00)
+    -- 64-bit 2175399.3, e 16, f 7: 2,175,399,299,999,999.5, a tie, up
+    ∷ written binary64 10 (16 ∷ 7 ∷ []) (0x414098D3A6666666 ∷ []) (front 1 ++ hex 4 0x10_07_00_00 ++ hex 9 0x00_69_85_9E_83_BA_07_00_00)
     -- 1e-10, e 10, the largest exponent: 1
     ∷ written binary32 10 (10 ∷ 0 ∷ []) (0x2EDBE6FF ∷ []) (front 1 ++ hex 4 0x0A_00_00_00 ++ hex 5 0x01_00_00_00_00)
     -- 3.0, e 10, f 10: 3.0000002 after two multiplications, whose 3 comes back as another value
@@ -111,29 +125,161 @@ arithmetic =
     -- 64-bit: the largest value, below zero, e 18, f 18: its first product is infinite
     ∷ written binary64 10 (18 ∷ 18 ∷ []) (0xFFEFFFFFFFFFFFFF ∷ [])
     (front 1 ++ hex 4 0x12_12_01_00 ++ hex 9 0x00_00_00_00_00_00_00_00_00 ++ hex 2 0x00_00 ++ hex 8 0xFF_FF_FF_FF_FF_FF_EF_FF)
-    -- 214748352.0, e 1: scaled to L
-    ∷ written binary32 10 (1 ∷ 0 ∷ []) (0x4D4CCCCC ∷ []) (front 1 ++ hex 4 0x01_00_00_00 ++ hex 5 0x80_FF_FF_7F_00)
-    -- 214748368.0, e 1: scaled to the float above L
-    ∷ written binary32 10 (1 ∷ 0 ∷ []) (0x4D4CCCCD ∷ [])
-    (front 1 ++ hex 4 0x01_00_01_00 ++ hex 5 0x00_00_00_00_00 ++ hex 2 0x00_00 ++ hex 4 0xCD_CC_4C_4D)
-    -- 2147483520.0, e 1, f 1: the first product is above L, the scaled value is not
-    ∷ written binary32 10 (1 ∷ 1 ∷ []) (0x4EFFFFFF ∷ []) (front 1 ++ hex 4 0x01_01_00_00 ++ hex 5 0x80_FF_FF_7F_00)
-    -- 64-bit 2^63 - 1024, e 0: L
-    ∷ written binary64 10 (0 ∷ 0 ∷ []) (0x43DFFFFFFFFFFFFF ∷ []) (front 1 ++ hex 4 0x00_00_00_00 ++ hex 9 0x00_FC_FF_FF_FF_FF_FF_7F_00)
+    -- -214748352.0, e 1: scaled to -L
+    ∷ written binary32 10 (1 ∷ 0 ∷ []) (0xCD4CCCCC ∷ []) (front 1 ++ hex 4 0x01_00_00_00 ++ hex 5 0x80_00_00_80_00)
+    -- -214748368.0, e 1: scaled to the float below -L
+    ∷ written binary32 10 (1 ∷ 0 ∷ []) (0xCD4CCCCD ∷ [])
+    (front 1 ++ hex 4 0x01_00_01_00 ++ hex 5 0x00_00_00_00_00 ++ hex 2 0x00_00 ++ hex 4 0xCD_CC_4C_CD)
+    -- -2147483520.0, e 1, f 1: the first product is below -L, the scaled value is not
+    ∷ written binary32 10 (1 ∷ 1 ∷ []) (0xCEFFFFFF ∷ []) (front 1 ++ hex 4 0x01_01_00_00 ++ hex 5 0x80_00_00_80_00)
+    -- 64-bit -(2^63 - 1024), e 0: -L
+    ∷ written binary64 10 (0 ∷ 0 ∷ []) (0xC3DFFFFFFFFFFFFF ∷ []) (front 1 ++ hex 4 0x00_00_00_00 ++ hex 9 0x00_04_00_00_00_00_00_80_00)
     -- 64-bit 2^63, e 0: the float above L
     ∷ written binary64 10 (0 ∷ 0 ∷ []) (0x43E0000000000000 ∷ [])
     (front 1 ++ hex 4 0x00_00_01_00 ++ hex 9 0x00_00_00_00_00_00_00_00_00 ++ hex 2 0x00_00 ++ hex 8 0x00_00_00_00_00_00_E0_43)
     -- 64-bit -2^63, e 0: its whole number would fit, its magnitude is above L
     ∷ written binary64 10 (0 ∷ 0 ∷ []) (0xC3E0000000000000 ∷ [])
     (front 1 ++ hex 4 0x00_00_01_00 ++ hex 9 0x00_00_00_00_00_00_00_00_00 ++ hex 2 0x00_00 ++ hex 8 0x00_00_00_00_00_00_E0_C3)
-    -- 64-bit 922337203685477478.4, e 1: scaled to L
-    ∷ written binary64 10 (1 ∷ 0 ∷ []) (0x43A9999999999999 ∷ []) (front 1 ++ hex 4 0x01_00_00_00 ++ hex 9 0x00_FC_FF_FF_FF_FF_FF_7F_00)
+    -- 64-bit -922337203685477478.4, e 1: scaled to -L
+    ∷ written binary64 10 (1 ∷ 0 ∷ []) (0xC3A9999999999999 ∷ []) (front 1 ++ hex 4 0x01_00_00_00 ++ hex 9 0x00_04_00_00_00_00_00_80_00)
     -- 64-bit 2^62, e 0
     ∷ written binary64 10 (0 ∷ 0 ∷ []) (0x43D0000000000000 ∷ []) (front 1 ++ hex 4 0x00_00_00_00 ++ hex 9 0x00_00_00_00_00_00_00_40_00)
     -- 64-bit -2^62, e 0
     ∷ written binary64 10 (0 ∷ 0 ∷ []) (0xC3D0000000000000 ∷ []) (front 1 ++ hex 4 0x00_00_00_00 ++ hex 9 0x00_00_00_00_00_00_00_C0_00)
     -- 64-bit 1.5 x 2^62, e 0
     ∷ written binary64 10 (0 ∷ 0 ∷ []) (0x43D8000000000000 ∷ []) (front 1 ++ hex 4 0x00_00_00_00 ++ hex 9 0x00_00_00_00_00_00_00_60_00)
+    ∷ []
+
+-- ---- the constant added and subtracted, and the fraction dropped: pages of one value. "The nearest" is the whole number nearest to the
+-- scaled value, which the rule took before
+
+unfoldable pub rounding : List Line
+rounding =
+    -- 2^22 - 1; 2^22 - 0.5, a tie, up; 2^22; 2^22 + 0.5. From 2^22 on the sum keeps even whole numbers alone
+    turns binary32 0 0 0x4A7FFFFC (pos 4194303)
+    ∷ lists binary32 0 0 0x4A7FFFFE
+    ∷ turns binary32 0 0 0x4A800000 (pos 4194304)
+    ∷ lists binary32 0 0 0x4A800001
+    -- 4194305.0 (R8): the sum is a tie, to even, which is down; 4194306.0; 4194307.0: a tie, up
+    ∷ lists binary32 0 0 0x4A800002
+    ∷ turns binary32 0 0 0x4A800004 (pos 4194306)
+    ∷ lists binary32 0 0 0x4A800006
+    -- below zero: -(2^22 - 1); -(2^22 - 0.5), a tie; -2^22; -(2^22 + 0.5), whose half is left and dropped; -4194305.0
+    ∷ turns binary32 0 0 0xCA7FFFFC (negℤ (pos 4194303))
+    ∷ lists binary32 0 0 0xCA7FFFFE
+    ∷ turns binary32 0 0 0xCA800000 (negℤ (pos 4194304))
+    ∷ lists binary32 0 0 0xCA800001
+    ∷ turns binary32 0 0 0xCA800002 (negℤ (pos 4194305))
+    -- 2^23 - 2; 2^23 - 1, a tie, up; 2^23; 2^23 + 1, a tie, down; 2^23 + 2
+    ∷ turns binary32 0 0 0x4AFFFFFC (pos 8388606)
+    ∷ lists binary32 0 0 0x4AFFFFFE
+    ∷ turns binary32 0 0 0x4B000000 (pos 8388608)
+    ∷ lists binary32 0 0 0x4B000001
+    ∷ turns binary32 0 0 0x4B000002 (pos 8388610)
+    -- below zero: -(2^23 - 1); -(2^23 - 0.5), whose half is dropped; -2^23; -(2^23 + 1)
+    ∷ turns binary32 0 0 0xCAFFFFFE (negℤ (pos 8388607))
+    ∷ lists binary32 0 0 0xCAFFFFFF
+    ∷ turns binary32 0 0 0xCB000000 (negℤ (pos 8388608))
+    ∷ turns binary32 0 0 0xCB000001 (negℤ (pos 8388609))
+    -- 5 x 2^22, from which on the sum keeps every fourth; 2 more, a tie, down; the same below zero, where it keeps every second
+    ∷ turns binary32 0 0 0x4BA00000 (pos 20971520)
+    ∷ lists binary32 0 0 0x4BA00001
+    ∷ turns binary32 0 0 0xCBA00001 (negℤ (pos 20971522))
+    -- e 1: 419430.4, which is 2^22, 419430.5, 419430.6; then -419430.5
+    ∷ turns binary32 1 0 0x48CCCCCD (pos 4194304)
+    ∷ lists binary32 1 0 0x48CCCCD0
+    ∷ turns binary32 1 0 0x48CCCCD3 (pos 4194306)
+    ∷ turns binary32 1 0 0xC8CCCCD0 (negℤ (pos 4194305))
+    -- e 1: 838860.7, one below 2^23, 838860.8; then -838860.7
+    ∷ lists binary32 1 0 0x494CCCCB
+    ∷ turns binary32 1 0 0x494CCCCD (pos 8388608)
+    ∷ turns binary32 1 0 0xC94CCCCB (negℤ (pos 8388607))
+    -- 9.1697, e 10, f 4: 9,169,699, to even 9,169,700, which comes back; the nearest, 9,169,699, would not
+    ∷ turns binary32 10 4 0x4112B717 (pos 9169700)
+    -- 90607.0, e 5, f 3: 9,060,701, to even 9,060,700, which comes back; the nearest would not
+    ∷ turns binary32 5 3 0x47B0F780 (pos 9060700)
+    -- 1483887.625, e 2, f 1: 14,838,877, to even 14,838,876; both come back
+    ∷ turns binary32 2 1 0x49B5237D (pos 14838876)
+    -- 5751.0, e 5, f 1: 57,510,004, to a multiple of 8 in the sum, 57,510,000; both come back
+    ∷ turns binary32 5 1 0x45B3B800 (pos 57510000)
+    -- 7.0, e 9, f 3: 7,000,000.5, down; 55.3, e 9, f 4: 5,529,999.5, up
+    ∷ turns binary32 9 3 0x40E00000 (pos 7000000)
+    ∷ turns binary32 9 4 0x425D3333 (pos 5530000)
+    -- -481.9323, e 5, f 1: -4,819,323.5, whose half is dropped; -4,819,323 comes back, and -4,819,324 would not
+    ∷ turns binary32 5 1 0xC3F0F756 (negℤ (pos 4819323))
+    -- -79321.3, e 2: -7,932,129.5; -7,932,129 does not come back, and -7,932,130 would
+    ∷ lists binary32 2 0 0xC79AECA6
+    -- -71874.41, e 2: -7,187,440.5; -7,187,440 does not come back, and -7,187,441 would
+    ∷ lists binary32 2 0 0xC78C6134
+    -- -8359.9, e 3: -8,359,900.5; -8,359,900 comes back, and -8,359,901 would not
+    ∷ turns binary32 3 0 0xC6029F9A (negℤ (pos 8359900))
+    -- -74.437, e 7, f 2: -7,443,699.5; -7,443,699, though -7,443,700 would come back too
+    ∷ turns binary32 7 2 0xC294DFBE (negℤ (pos 7443699))
+    -- -39.6, e 9, f 4: -3,959,999.5, a tie, to even; with 2^23 for the constant a half would be left and dropped
+    ∷ turns binary32 9 4 0xC21E6666 (negℤ (pos 3960000))
+    -- 2147483392.0, which is L - 128, the largest that is no exception; 2147483520.0 (R9), which is L, rounded to 2^31; -L
+    ∷ turns binary32 0 0 0x4EFFFFFE (pos 2147483392)
+    ∷ lists binary32 0 0 0x4EFFFFFF
+    ∷ turns binary32 0 0 0xCEFFFFFF (negℤ (pos 2147483520))
+    -- 214748352.0, e 2, f 1: scaled to L, rounded to 2^31, which would come back; 2147483.5, e 4, f 1: the same, and L would come back too
+    ∷ lists binary32 2 1 0x4D4CCCCC
+    ∷ lists binary32 4 1 0x4A03126E
+    -- 64-bit, about 2^51 as about 2^22: a half and one below it, 2^51, a half and one above it, then two and three
+    ∷ turns binary64 0 0 0x431FFFFFFFFFFFFC (pos 2251799813685247)
+    ∷ lists binary64 0 0 0x431FFFFFFFFFFFFE
+    ∷ turns binary64 0 0 0x4320000000000000 (pos 2251799813685248)
+    ∷ lists binary64 0 0 0x4320000000000001
+    ∷ lists binary64 0 0 0x4320000000000002
+    ∷ turns binary64 0 0 0x4320000000000004 (pos 2251799813685250)
+    ∷ lists binary64 0 0 0x4320000000000006
+    -- below zero
+    ∷ turns binary64 0 0 0xC31FFFFFFFFFFFFC (negℤ (pos 2251799813685247))
+    ∷ lists binary64 0 0 0xC31FFFFFFFFFFFFE
+    ∷ turns binary64 0 0 0xC320000000000000 (negℤ (pos 2251799813685248))
+    ∷ lists binary64 0 0 0xC320000000000001
+    ∷ turns binary64 0 0 0xC320000000000002 (negℤ (pos 2251799813685249))
+    -- about 2^52 as about 2^23
+    ∷ turns binary64 0 0 0x432FFFFFFFFFFFFC (pos 4503599627370494)
+    ∷ lists binary64 0 0 0x432FFFFFFFFFFFFE
+    ∷ turns binary64 0 0 0x4330000000000000 (pos 4503599627370496)
+    ∷ lists binary64 0 0 0x4330000000000001
+    ∷ turns binary64 0 0 0x4330000000000002 (pos 4503599627370498)
+    -- below zero
+    ∷ turns binary64 0 0 0xC32FFFFFFFFFFFFE (negℤ (pos 4503599627370495))
+    ∷ lists binary64 0 0 0xC32FFFFFFFFFFFFF
+    ∷ turns binary64 0 0 0xC330000000000000 (negℤ (pos 4503599627370496))
+    ∷ turns binary64 0 0 0xC330000000000001 (negℤ (pos 4503599627370497))
+    -- e 1: 225179981368524.8, which is 2^51, 225179981368524.9, 225179981368525.0; then -225179981368524.9
+    ∷ turns binary64 1 0 0x42E999999999999A (pos 2251799813685248)
+    ∷ lists binary64 1 0 0x42E999999999999D
+    ∷ turns binary64 1 0 0x42E99999999999A0 (pos 2251799813685250)
+    ∷ turns binary64 1 0 0xC2E999999999999D (negℤ (pos 2251799813685249))
+    -- 493229154708972.0, e 8, f 7: 4,932,291,547,089,719, to even ...,720, which comes back; the nearest would not
+    ∷ turns binary64 8 7 0x42FC096DC8F2DEC0 (pos 4932291547089720)
+    -- 54251423.982445, e 11, f 3: 5,425,142,398,244,501, to even ...,500, which comes back; the nearest would not
+    ∷ turns binary64 11 3 0x4189DE7CFFDC0C20 (pos 5425142398244500)
+    -- 684.2, e 14, f 1: 6,842,000,000,000,001, to even 6,842,000,000,000,000; both come back
+    ∷ turns binary64 14 1 0x408561999999999A (pos 6842000000000000)
+    -- 72.272900772191, e 14: 7,227,290,077,219,099, to even ...,100; both come back
+    ∷ turns binary64 14 0 0x4052117734CCE743 (pos 7227290077219100)
+    -- -4.1, e 15: -4,099,999,999,999,999.5; -4,099,999,999,999,999 comes back, and -4,100,000,000,000,000 would not
+    ∷ turns binary64 15 0 0xC010666666666666 (negℤ (pos 4099999999999999))
+    -- -346274320.55028, e 7: -3,462,743,205,502,799.5; -...,799 does not come back, and -...,800 would
+    ∷ lists binary64 7 0 0xC1B4A3BA108CDF26
+    -- -39400880.402, e 8: -3,940,088,040,200,000.5; -3,940,088,040,200,000 comes back, and one less would not
+    ∷ turns binary64 8 0 0xC182C9AD83374BC7 (negℤ (pos 3940088040200000))
+    -- -4439176.0, e 15, f 6: -4,439,175,999,999,999.5; -4,439,175,999,999,999, though one less would come back too
+    ∷ turns binary64 15 6 0xC150EF2200000000 (negℤ (pos 4439175999999999))
+    -- -2173527729.7, e 12, f 6: -2,173,527,729,699,999.5, a tie, to even; with 2^52 for the constant a half would be dropped
+    ∷ turns binary64 12 6 0xC1E031ACD6366666 (negℤ (pos 2173527729700000))
+    -- -83644.01, e 2: -8,364,400.999999999; with the constant of 32-bit floats it would be dropped to -8,364,400
+    ∷ turns binary64 2 0 0xC0F46BC028F5C28F (negℤ (pos 8364401))
+    -- 2^63 - 2,048, which is L - 1,024, the largest that is no exception; 2^63 - 1,024, which is L, rounded to 2^63
+    ∷ turns binary64 0 0 0x43DFFFFFFFFFFFFE (pos 9223372036854773760)
+    ∷ lists binary64 0 0 0x43DFFFFFFFFFFFFF
+    -- 922337203685477478.4, e 6, f 5: scaled to L, rounded to 2^63, which would come back; 92233720.36854775, e 14, f 3: L would too
+    ∷ lists binary64 6 5 0x43A9999999999999
+    ∷ lists binary64 14 3 0x4195FD7FE1796495
     ∷ []
 
 -- ---- from a whole number to a value: the reader, also on whole numbers that the writer never gives
@@ -171,15 +317,15 @@ returns =
 
 unfoldable pub shapes : List Line
 shapes =
-    -- L, -L, and the floats beyond them, which are exceptions; frame -L, width 32
-    written binary32 10 (0 ∷ 0 ∷ []) (0x4EFFFFFF ∷ 0xCEFFFFFF ∷ 0x4F000000 ∷ 0xCF000000 ∷ [])
-    (front 4 ++ hex 4 0x00_00_02_00 ++ hex 5 0x80_00_00_80_20 ++ hex 16 0x00_FF_FF_FF_00_00_00_00_00_FF_FF_FF_00_FF_FF_FF
-    ++ hex 4 0x02_00_03_00 ++ hex 8 0x00_00_00_4F_00_00_00_CF)
-    -- 64-bit, the same; width 64
-    ∷ written binary64 10 (0 ∷ 0 ∷ []) (0x43DFFFFFFFFFFFFF ∷ 0xC3DFFFFFFFFFFFFF ∷ 0x43E0000000000000 ∷ 0xC3E0000000000000 ∷ [])
+    -- the largest and the smallest that are no exceptions, L - 128 and -L, and the next to them, L and -2^31, which are; frame -L, width 32
+    written binary32 10 (0 ∷ 0 ∷ []) (0x4EFFFFFE ∷ 0xCEFFFFFF ∷ 0x4EFFFFFF ∷ 0xCF000000 ∷ [])
+    (front 4 ++ hex 4 0x00_00_02_00 ++ hex 5 0x80_00_00_80_20 ++ hex 16 0x80_FE_FF_FF_00_00_00_00_80_FE_FF_FF_80_FE_FF_FF
+    ++ hex 4 0x02_00_03_00 ++ hex 8 0xFF_FF_FF_4E_00_00_00_CF)
+    -- 64-bit, the same, with L - 1,024; width 64
+    ∷ written binary64 10 (0 ∷ 0 ∷ []) (0x43DFFFFFFFFFFFFE ∷ 0xC3DFFFFFFFFFFFFF ∷ 0x43DFFFFFFFFFFFFF ∷ 0xC3E0000000000000 ∷ [])
     (front 4 ++ hex 4 0x00_00_02_00 ++ hex 9 0x00_04_00_00_00_00_00_80_40
-    ++ hex 32 0x00_F8_FF_FF_FF_FF_FF_FF_00_00_00_00_00_00_00_00_00_F8_FF_FF_FF_FF_FF_FF_00_F8_FF_FF_FF_FF_FF_FF ++ hex 4 0x02_00_03_00
-    ++ hex 16 0x00_00_00_00_00_00_E0_43_00_00_00_00_00_00_E0_C3)
+    ++ hex 32 0x00_F4_FF_FF_FF_FF_FF_FF_00_00_00_00_00_00_00_00_00_F4_FF_FF_FF_FF_FF_FF_00_F4_FF_FF_FF_FF_FF_FF ++ hex 4 0x02_00_03_00
+    ++ hex 16 0xFF_FF_FF_FF_FF_FF_DF_43_00_00_00_00_00_00_E0_C3)
     -- 0.0 and -0.0
     ∷ written binary32 10 (0 ∷ 0 ∷ []) (0x00000000 ∷ 0x80000000 ∷ [])
     (front 2 ++ hex 4 0x00_00_01_00 ++ hex 5 0x00_00_00_00_00 ++ hex 2 0x01_00 ++ hex 4 0x00_00_00_80)
@@ -415,8 +561,8 @@ flaws =
     -- 21 in vector 1, place 2: 16,777,217 comes back as 16777216.0, which turns into another whole number
     ∷ flawed binary32 (behind 3 ++ hex 4 0x00_00_00_00 ++ hex 5 0x00_00_00_01_01 ++ hex 1 0x04)
     (sevens ++ 0x4B800000 ∷ 0x4B800000 ∷ 0x4B800000 ∷ []) 21 (in-vector-at 1 2)
-    -- 21 in vector 1, place 1: 2,147,483,647 comes back as 2147483648.0, which is an exception
-    ∷ flawed binary32 (behind 2 ++ hex 4 0x00_00_00_00 ++ hex 5 0x80_FF_FF_7F_07 ++ hex 2 0x80_3F) (sevens ++ 0x4EFFFFFF ∷ 0x4F000000 ∷ [])
+    -- 21 in vector 1, place 1: 2,147,483,647, behind L - 128, comes back as 2147483648.0, which is an exception
+    ∷ flawed binary32 (behind 2 ++ hex 4 0x00_00_00_00 ++ hex 5 0x00_FF_FF_7F_08 ++ hex 2 0x00_FF) (sevens ++ 0x4EFFFFFE ∷ 0x4F000000 ∷ [])
     21 (in-vector-at 1 1)
     -- 21, place 1, 64-bit: 2^53 + 1
     ∷ flawed binary64 (front 2 ++ hex 4 0x00_00_00_00 ++ hex 9 0x00_00_00_00_00_00_20_00_01 ++ hex 1 0x02)
@@ -459,9 +605,9 @@ flaws =
     -- 24 in vector 1: width 1 for 7.0, 7.0
     ∷ flawed binary32 (behind 2 ++ hex 4 0x00_00_00_00 ++ hex 5 0x07_00_00_00_01 ++ hex 1 0x00) (sevens ++ 0x40E00000 ∷ 0x40E00000 ∷ [])
     24 (in-vector 1)
-    -- 24: fields 0, 640, 896 on frame L - 640 make L - 640, L and, modulo 2^32, -L, which is smaller than the frame
-    ∷ flawed binary32 (front 3 ++ hex 4 0x00_00_00_00 ++ hex 5 0x00_FD_FF_7F_0A ++ hex 4 0x00_00_0A_38)
-    (0x4EFFFFFA ∷ 0x4EFFFFFF ∷ 0xCEFFFFFF ∷ []) 24 (in-vector 0)
+    -- 24: fields 0, 512, 896 on frame L - 640 make L - 640, L - 128 and, modulo 2^32, -L, which is smaller than the frame
+    ∷ flawed binary32 (front 3 ++ hex 4 0x00_00_00_00 ++ hex 5 0x00_FD_FF_7F_0A ++ hex 4 0x00_00_08_38)
+    (0x4EFFFFFA ∷ 0x4EFFFFFE ∷ 0xCEFFFFFF ∷ []) 24 (in-vector 0)
     -- 24, 64-bit: width 64 for 7.0
     ∷ flawed binary64 (front 1 ++ hex 4 0x00_00_00_00 ++ hex 9 0x07_00_00_00_00_00_00_00_40 ++ hex 8 0x00_00_00_00_00_00_00_00)
     (0x401C000000000000 ∷ []) 24 (in-vector 0)
@@ -473,6 +619,49 @@ flaws =
     ∷ faulty binary32
     (hex 8 0x01_00_00_03_09_00_00_00 ++ hex 8 0x08_00_00_00_12_00_00_00 ++ hex 4 0x00_00_00_00 ++ hex 5 0x07_00_00_00_01 ++ hex 1 0x00
     ++ hex 4 0x00_00_01_00 ++ hex 5 0x07_00_00_00_00 ++ hex 2 0x01_00 ++ hex 4 0x00_00_C0_7F) 13 (in-vector-at 1 0)
+    ∷ []
+
+-- ---- pages by the older rule, under which the whole number was the nearest: the reader gives their values, and the examiner refuses those
+-- that the rule would now write otherwise
+
+unfoldable pub older : List Line
+older =
+    -- 21: R8 as document 01 has it, with frame 4,194,305
+    moved binary32 10 (0 ∷ 0 ∷ []) (0x4A800002 ∷ []) (front 1 ++ hex 4 0x00_00_00_00 ++ hex 5 0x01_00_40_00_00) 21 (in-vector-at 0 0)
+    -- 21: R9 as document 01 has it, with frame L
+    ∷ moved binary32 10 (0 ∷ 0 ∷ []) (0x4EFFFFFF ∷ []) (front 1 ++ hex 4 0x00_00_00_00 ++ hex 5 0x80_FF_FF_7F_00) 21 (in-vector-at 0 0)
+    -- 21 in vector 1, place 2: 4194304.0, 4194306.0, 4194307.0
+    ∷ moved binary32 3 (0 ∷ 0 ∷ 0 ∷ 0 ∷ []) (sevens ++ 0x4A800000 ∷ 0x4A800004 ∷ 0x4A800006 ∷ [])
+    (behind 3 ++ hex 4 0x00_00_00_00 ++ hex 5 0x00_00_40_00_02 ++ hex 1 0x38) 21 (in-vector-at 1 2)
+    -- 21: 1483887.625, e 2, f 1, with frame 14,838,877; it turns into another whole number, and comes back from both
+    ∷ moved binary32 10 (2 ∷ 1 ∷ []) (0x49B5237D ∷ []) (front 1 ++ hex 4 0x02_01_00_00 ++ hex 5 0x5D_6C_E2_00_00) 21 (in-vector-at 0 0)
+    -- 21: -79321.3, e 2, with frame -7,932,130
+    ∷ moved binary32 10 (2 ∷ 0 ∷ []) (0xC79AECA6 ∷ []) (front 1 ++ hex 4 0x02_00_00_00 ++ hex 5 0x1E_F7_86_FF_00) 21 (in-vector-at 0 0)
+    -- 21, 64-bit: 2^51 + 1, e 0
+    ∷ moved binary64 10 (0 ∷ 0 ∷ []) (0x4320000000000002 ∷ [])
+    (front 1 ++ hex 4 0x00_00_00_00 ++ hex 9 0x01_00_00_00_00_00_08_00_00) 21 (in-vector-at 0 0)
+    -- 21, 64-bit: L, e 0
+    ∷ moved binary64 10 (0 ∷ 0 ∷ []) (0x43DFFFFFFFFFFFFF ∷ [])
+    (front 1 ++ hex 4 0x00_00_00_00 ++ hex 9 0x00_FC_FF_FF_FF_FF_FF_7F_00) 21 (in-vector-at 0 0)
+    -- 22: -481.9323, e 5, f 1, listed
+    ∷ moved binary32 10 (5 ∷ 1 ∷ []) (0xC3F0F756 ∷ [])
+    (front 1 ++ hex 4 0x05_01_01_00 ++ hex 5 0x00_00_00_00_00 ++ hex 2 0x00_00 ++ hex 4 0x56_F7_F0_C3) 22 (in-vector-at 0 0)
+    -- 22, place 1: 1.0, 9.1697, e 10, f 4, the second listed
+    ∷ moved binary32 10 (10 ∷ 4 ∷ []) (0x3F800000 ∷ 0x4112B717 ∷ [])
+    (front 2 ++ hex 4 0x0A_04_01_00 ++ hex 5 0x40_42_0F_00_00 ++ hex 2 0x01_00 ++ hex 4 0x17_B7_12_41) 22 (in-vector-at 0 1)
+    -- 21 at place 1 before 22 at place 0: -481.9323, listed, and 5751.0, e 5, f 1, with frame 57,510,004
+    ∷ moved binary32 10 (5 ∷ 1 ∷ []) (0xC3F0F756 ∷ 0x45B3B800 ∷ [])
+    (front 2 ++ hex 4 0x05_01_01_00 ++ hex 5 0x74_88_6D_03_00 ++ hex 2 0x00_00 ++ hex 4 0x56_F7_F0_C3) 21 (in-vector-at 0 1)
+    -- 22 in vector 0 before 21 in vector 1: eight times 90607.0, e 5, f 3, listed, and R8's value
+    ∷ moved binary32 3 (5 ∷ 3 ∷ 0 ∷ 0 ∷ []) (replicate 8 0x47B0F780 ++ 0x4A800002 ∷ [])
+    (hex 8 0x01_00_00_03_09_00_00_00 ++ hex 8 0x08_00_00_00_41_00_00_00
+    ++ hex 4 0x05_03_08_00 ++ hex 5 0x00_00_00_00_00 ++ rising 0 8
+    ++ hex 32 0x80_F7_B0_47_80_F7_B0_47_80_F7_B0_47_80_F7_B0_47_80_F7_B0_47_80_F7_B0_47_80_F7_B0_47_80_F7_B0_47
+    ++ hex 4 0x00_00_00_00 ++ hex 5 0x01_00_40_00_00) 22 (in-vector-at 0 0)
+    -- 22, 64-bit: -4.1, e 15, listed
+    ∷ moved binary64 10 (15 ∷ 0 ∷ []) (0xC010666666666666 ∷ [])
+    (front 1 ++ hex 4 0x0F_00_01_00 ++ hex 9 0x00_00_00_00_00_00_00_00_00 ++ hex 2 0x00_00 ++ hex 8 0x66_66_66_66_66_66_10_C0)
+    22 (in-vector-at 0 0)
     ∷ []
 
 -- ---- rows 5, 6, 16, 9, 10 and 15 from the writer and (but for 15) from measuring
@@ -656,6 +845,8 @@ choosing =
     ∷ chooses binary32 (0x3ED41206 ∷ 0x4468C0A4 ∷ []) (pair 2 6 2)
     -- 1.0, 3.0, 95.55: 15 bytes with 6, 4; with 0, 0 an exception, and 16 bytes, two of them its position
     ∷ chooses binary32 (0x3F800000 ∷ 0x40400000 ∷ 0x42BF199A ∷ []) (pair 3 6 4)
+    -- 4194305.0 (R8): an exception with 0, 0, and the first pair that brings it back is 1, 0
+    ∷ chooses binary32 (0x4A800002 ∷ []) (pair 1 1 0)
     -- exceptions with every pair: a NaN, -0.0, an infinity
     ∷ chooses binary32 (0x7FC00000 ∷ 0x80000000 ∷ 0xFF800000 ∷ []) (pair 3 0 0)
     -- 31: no values, and one more than a vector holds
@@ -668,10 +859,10 @@ choosing =
 -- ---- the table
 
 unfoldable pub edges : List Line
-edges = arithmetic ++ returns ++ shapes ++ refusals ++ flaws ++ settings ++ alone
+edges = arithmetic ++ rounding ++ returns ++ shapes ++ refusals ++ flaws ++ older ++ settings ++ alone
 
 pub edges-hold : allHold edges ≡ true
-unfolding allRules rising edges arithmetic returns shapes refusals flaws settings alone
+unfolding allRules rising edges arithmetic rounding returns shapes refusals flaws older settings alone
 edges-hold = refl
 
 pub choosing-holds : allHold choosing ≡ true

@@ -4,6 +4,7 @@ use Prim.Native.Nat.{ℕ, _+_, _-_, _*_, _%_, _^_, _≤_, _<_}
 use mathlib.Core.Path.{_≡_}
 use mathlib.Core.Logic.{_⊎_}
 use mathlib.Core.Bool.{Bool, true, false}
+use lib.Dec.{ltb}
 use lib.IntN.{ℤ}
 use lib.Ieee.{Format, Float, nan, inf, fin, prec, low, emax, up, down, mul, ofInt}
 use lib.Ieee.Exact.{HasValue}
@@ -48,6 +49,20 @@ pub record NearestToInverse (fmt : Format) (x : Float) (c : ℕ) : Type 0 where
 abbrev pub apart : ℕ → ℕ → ℕ
 apart a b = (a - b) + (b - a)
 
+-- the size and the sign of the sum of two numbers a and b with the signs s and t, negative where a sign is true: a sum of 0 is negative
+-- only where both numbers are
+abbrev pub sumSize : Bool → ℕ → Bool → ℕ → ℕ
+sumSize true a true b = a + b
+sumSize false a false b = a + b
+sumSize true a false b = apart a b
+sumSize false a true b = apart a b
+
+abbrev pub sumSign : Bool → ℕ → Bool → ℕ → Bool
+sumSign true a true b = true
+sumSign false a false b = false
+sumSign true a false b = ltb b a
+sumSign false a true b = ltb a b
+
 -- how far a finite float is from 1 / c, as a fraction of c and the float's own denominator: for a / d that is apart (a * c) d / (d * c)
 abbrev pub off : ℕ → Float → ℕ
 off c nan = 0
@@ -62,3 +77,9 @@ AsNear c y x = off c y * den x ≤ off c x * den y
 -- the float whose bits are `back`
 abbrev pub broughtBack : Format → Pair → ℤ → Float
 broughtBack fmt p z = mul fmt (mul fmt (ofInt fmt z) (power fmt (p .factor))) (negPower fmt (p .exponent))
+
+-- finite, and of magnitude at most a quarter of 2 ^ prec: 2^22 or 2^51. As far as that the fast rounding is the nearest whole number
+abbrev pub Small : Format → Float → Type 0
+Small fmt nan = ⊥
+Small fmt (inf s) = ⊥
+Small fmt (fin s m e) = m * up e ≤ 2 ^ (prec fmt - 2) * down e

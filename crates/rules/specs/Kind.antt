@@ -29,6 +29,11 @@ abbrev pub maxScaled : Format → ℕ
 maxScaled binary32 = 2 ^ 31 - 128
 maxScaled binary64 = 2 ^ 63 - 1024
 
+-- the constant that rounding adds and subtracts: a half more than the smallest float whose neighbours are whole numbers, 2^23 or 2^52
+abbrev pub roundingConstant : Format → ℕ
+roundingConstant binary32 = 12582912
+roundingConstant binary64 = 6755399441055744
+
 -- the machine word of the kind; its bits are the largest width W, its bytes the size of a value
 abbrev pub word : Format → Width
 word binary32 = w32

@@ -11,5 +11,6 @@ pub mod Write
 pub mod Choose
 pub mod Calls
 pub mod Demands
+pub mod Older
 pub mod Recordings
 pub mod Edges

@@ -1,5 +1,5 @@
 -- Calls with what each must give, as lines of a table; and document 01's starred recordings, R1 to R11, as one table with one statement:
--- the written rules give what the document says. Assumes nothing.
+-- the written rules give what the document says, and document 02 where it changed R8 and R9. Assumes nothing.
 use Prim.Native.Nat.{ℕ, zero, suc, _-_, _/_, _%_, _^_}
 use mathlib.Core.Path.{_≡_, refl}
 use mathlib.Core.Bool.{Bool, true, false, _&&_}
@@ -16,9 +16,10 @@ use Rattle.rules.specs.Verdict.{Point, the-page, in-vector, Result, done
 use Rattle.rules.specs.Read.{readOf, allRead}
 use Rattle.rules.specs.ReadVector.{readVectorOf, allReadVector}
 use Rattle.rules.specs.Examine.{examineOf, allExamine}
-use Rattle.rules.specs.Write.{writeOf, allWrite}
+use Rattle.rules.specs.Write.{pairsOf, writeOf, allWrite}
 use Rattle.rules.specs.Choose.{chooseOf, allChoose}
 use Rattle.rules.specs.Calls.{measureOf}
+use Rattle.rules.specs.Older.{olderTried, pageBy, allOlder}
 use Rattle.rules.specs.declared.Answer.{Answer}
 use Rattle.rules.specs.declared.Choice.{Choice}
 
@@ -45,6 +46,8 @@ pub data Line : Type 0 where
   written : Format → ℕ → List ℕ → List ℕ → List ℕ → Line
   -- kind, page, values, row, point: the reader gives the values, and the examiner refuses the page
   flawed : Format → List ℕ → List ℕ → ℕ → Point → Line
+  -- kind, s, pairs, values, page, row, point: by the older rule this was the page of the values; reader and examiner as in the line above
+  moved : Format → ℕ → List ℕ → List ℕ → List ℕ → ℕ → Point → Line
   -- kind, page, row, point: the reader, lent room for any page, and the examiner both refuse the page
   faulty : Format → List ℕ → ℕ → Point → Line
 
@@ -82,6 +85,10 @@ holds (written fmt s pairs vs page) =
     && gives (readOf fmt (length vs) page) (done vs)
     && gives (examineOf fmt page) (done vs)
 holds (flawed fmt page vs a p) = gives (readOf fmt (length vs) page) (done vs) && gives (examineOf fmt page) (refused a p)
+holds (moved fmt s pairs vs page a p) =
+    same (pageBy fmt (olderTried fmt) s (pairsOf pairs) vs) page
+    && gives (readOf fmt (length vs) page) (done vs)
+    && gives (examineOf fmt page) (refused a p)
 holds (faulty fmt page a p) = gives (readOf fmt maxValues page) (refused a p) && gives (examineOf fmt page) (refused a p)
 
 unfoldable pub allHold : List Line → Bool
@@ -90,7 +97,7 @@ allHold (l ∷ ls) = holds l && allHold ls
 
 -- to unfold this is to unfold all of the above, and all rules
 unfoldable pub allRules : Unit {0}
-unfolding hex holds allHold allDigits allDecimal allVector allPage allRead allReadVector allExamine allWrite allChoose measureOf
+unfolding hex holds allHold allDigits allDecimal allVector allPage allRead allReadVector allExamine allWrite allChoose allOlder measureOf
 allRules = tt
 
 -- ---- the starred recordings. A page is cut as document 01 cuts it: header, offsets, pair and count of exceptions, frame and width, packed
@@ -120,12 +127,14 @@ starred =
     -- R7: 64-bit 1.5; frame 15, width 0; 25 bytes
     ∷ written binary64 10 (1 ∷ 0 ∷ []) (0x3FF8000000000000 ∷ [])
     (hex 8 0x01_00_00_0A_01_00_00_00 ++ hex 4 0x04_00_00_00 ++ hex 4 0x01_00_00_00 ++ hex 9 0x0F_00_00_00_00_00_00_00_00)
-    -- R8: 4194305.0; no exception, frame 4,194,305
+    -- R8 (T-05): 4194305.0; rounded to 4,194,304, and so an exception
     ∷ written binary32 10 (0 ∷ 0 ∷ []) (0x4A800002 ∷ [])
-    (hex 8 0x01_00_00_0A_01_00_00_00 ++ hex 4 0x04_00_00_00 ++ hex 4 0x00_00_00_00 ++ hex 5 0x01_00_40_00_00)
-    -- R9: 2147483520.0; no exception
+    (hex 8 0x01_00_00_0A_01_00_00_00 ++ hex 4 0x04_00_00_00 ++ hex 4 0x00_00_01_00 ++ hex 5 0x00_00_00_00_00
+    ++ hex 2 0x00_00 ++ hex 4 0x02_00_80_4A)
+    -- R9 (T-05): 2147483520.0, which is L; rounded to 2^31, and so an exception
     ∷ written binary32 10 (0 ∷ 0 ∷ []) (0x4EFFFFFF ∷ [])
-    (hex 8 0x01_00_00_0A_01_00_00_00 ++ hex 4 0x04_00_00_00 ++ hex 4 0x00_00_00_00 ++ hex 5 0x80_FF_FF_7F_00)
+    (hex 8 0x01_00_00_0A_01_00_00_00 ++ hex 4 0x04_00_00_00 ++ hex 4 0x00_00_01_00 ++ hex 5 0x00_00_00_00_00
+    ++ hex 2 0x00_00 ++ hex 4 0xFF_FF_FF_4E)
     -- R9: 2147483648.0; an exception
     ∷ written binary32 10 (0 ∷ 0 ∷ []) (0x4F000000 ∷ [])
     (hex 8 0x01_00_00_0A_01_00_00_00 ++ hex 4 0x04_00_00_00 ++ hex 4 0x00_00_01_00 ++ hex 5 0x00_00_00_00_00

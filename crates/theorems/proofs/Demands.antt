@@ -4,22 +4,22 @@ use mathlib.Core.Path.{_≡_, sym, ap, ap₂, _∙_, subst}
 use mathlib.Core.Logic.{_↔_, _⊎_}
 use mathlib.Core.Bool.{Bool, true, false, not, cond}
 use mathlib.Core.Option.{none, some}
-use Prim.Native.Nat.{ℕ, _+_, _*_, _^_, _<_, _≤_}
+use Prim.Native.Nat.{ℕ, suc, _+_, _*_, _^_, _<_, _≤_}
 use mathlib.Core.List.{List, [], _∷_}
 use lib.ListN.{length, getD, take, drop, replicate}
 use lib.Dec.{T}
-use lib.IntN.{ℤ, natAbs}
+use lib.IntN.{ℤ, pos, natAbs}
 use lib.Signed.{mag, nonNeg}
-use lib.Ieee.{Format, binary32, binary64, Float, fin, up, down, mul, ofInt, ofBits, isNan, nanBits, fits, unlike}
+use lib.Ieee.{Format, binary32, binary64, Float, fin, up, down, add, sub, mul, ofInt, ofBits, isNan, nanBits, fits, unlike}
 use lib.Ieee.Exact.{HasValue}
 use lib.Ieee.Scale.{finite}
 use mir.Val.{hbits}
 use Rattle.digits.specs.Lists.{Each}
 use Rattle.digits.proofs.Lists.{each-map}
 use Rattle.digits.specs.Digits.{bit, bitOf}
-use Rattle.rules.specs.Kind.{minS, maxS, maxValues, word, maxExponent, Bytes, Values}
-use Rattle.rules.specs.Decimal.{Pair, power, negPower, scaled, signed, whole, back, exception}
-use Rattle.rules.specs.Floats.{NearestEven, RoundedOnce, NearestToInverse, AsNear, broughtBack}
+use Rattle.rules.specs.Kind.{minS, maxS, maxValues, word, maxExponent, roundingConstant, Bytes, Values}
+use Rattle.rules.specs.Decimal.{Pair, power, negPower, scaled, signed, truncated, whole, back, exception}
+use Rattle.rules.specs.Floats.{NearestEven, RoundedOnce, sumSize, sumSign, Small, NearestToInverse, AsNear, broughtBack}
 use Rattle.rules.specs.Vector.{Raw, tries, filled, fieldsOf, widthOf, encoded, fields, stored}
 use Rattle.rules.specs.Page.{vectors, pageOf, sOf, countOf, vectorsOf, bodyOf, metaAt}
 use Rattle.rules.specs.Verdict.{Point, Verdict, the-page, fine, refuse, verdict, ordered, Passes, FirstTrue, done, refused, done-with, refusal, Result, answer, after}
@@ -49,6 +49,7 @@ use Rattle.theorems.proofs.OnePage.{accepted-is-page, page-is-accepted,
 use Rattle.theorems.proofs.Choosing.{vector-fine, pairs-32, pairs-64, tried-inside, of-every-pair, chosen-exactly}
 use Rattle.theorems.proofs.Shortest.{only-exceptions, chosen-settings, chosen-page, zero-exponent, half-exponent}
 use Rattle.theorems.proofs.Rounding as Rounding
+use Rattle.theorems.proofs.Fast as Fast
 use Rattle.theorems.proofs.Nearest as Nearest
 
 -- ==== Demand 1: every call ends with an answer of document 01's table; a refusal comes exactly where its row is the first in the call's
@@ -191,12 +192,28 @@ products-are-rounded-once = Rounding.product-once
 pub whole-numbers-are-rounded-once : (fmt : Format) (z : ℤ) → RoundedOnce fmt (not (nonNeg z)) (natAbs z) 1 (ofInt fmt z)
 whole-numbers-are-rounded-once = Rounding.ofInt-once
 
--- the whole number of a finite float is the nearest, ties to even, and nothing else is
-pub wholes-are-nearest : (s : Bool) (m : ℕ) (e : ℤ) → (n : ℕ) × (whole (fin s m e) ≡ signed s n) × NearestEven (m * up e) (down e) n
-wholes-are-nearest = Rounding.whole-nearest
+-- and a sum; a difference is a sum with the other sign
+pub sums-are-rounded-once : (fmt : Format) (s t : Bool) (m n : ℕ) (e d : ℤ)
+    → RoundedOnce fmt (sumSign s (m * up e * down d) t (n * up d * down e)) (sumSize s (m * up e * down d) t (n * up d * down e)) (down e * down d) (add fmt (fin s m e) (fin t n d))
+sums-are-rounded-once = Rounding.add-once
 
-pub nothing-else-is-nearest : (s : Bool) (m : ℕ) (e : ℤ) (n : ℕ) → NearestEven (m * up e) (down e) n → whole (fin s m e) ≡ signed s n
-nothing-else-is-nearest = Rounding.whole-only
+pub differences-are-sums : (fmt : Format) (x : Float) (t : Bool) (n : ℕ) (d : ℤ) → sub fmt x (fin t n d) ≡ add fmt x (fin (not t) n d)
+differences-are-sums = Rounding.sub-is
+
+-- the constant is a float of the kind
+pub the-constant-is-exact : (fmt : Format) → HasValue (ofInt fmt (pos (roundingConstant fmt))) false (roundingConstant fmt) 1
+the-constant-is-exact = Fast.constant-exact
+
+-- without its fraction a finite float is the next whole number toward zero
+pub fractions-are-dropped : (s : Bool) (m : ℕ) (e : ℤ) → (n : ℕ) × (truncated (fin s m e) ≡ signed s n) × (n * down e ≤ m * up e) × (m * up e < suc n * down e)
+fractions-are-dropped = Rounding.truncated-under
+
+-- the whole number of a small float is the nearest, ties to even, and nothing else is
+pub small-wholes-are-nearest : (fmt : Format) (s : Bool) (m : ℕ) (e : ℤ) → Small fmt (fin s m e) → (n : ℕ) × (whole fmt (fin s m e) ≡ signed s n) × NearestEven (m * up e) (down e) n
+small-wholes-are-nearest = Fast.small-nearest
+
+pub nothing-else-is-nearest : (fmt : Format) (s : Bool) (m : ℕ) (e : ℤ) (n : ℕ) → Small fmt (fin s m e) → NearestEven (m * up e) (down e) n → whole fmt (fin s m e) ≡ signed s n
+nothing-else-is-nearest = Fast.small-only
 
 -- inside the limits: only a NaN scales to a NaN; nothing comes back as a NaN, nor as an infinity; and its bits are those of the float
 pub scaled-is-no-nan : (fmt : Format) (p : Pair) → Allowed fmt p → (b : ℕ) → nanBits fmt b ≡ false → isNan (scaled fmt p (ofBits fmt b)) ≡ false

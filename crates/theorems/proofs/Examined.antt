@@ -25,40 +25,124 @@ use Rattle.digits.proofs.Pack.{of-pack, fields-lt, pack-unpack}
 use Rattle.rules.specs.Kind.{word, wordBits, Bytes}
 use Rattle.rules.specs.Decimal.{Pair, exception, tried, back}
 use Rattle.rules.specs.Vector.{Raw, tries, standIn, filled, orElse, least, fieldsOf, widthOf, places, picks, rawOf, encoded, fields, wholes, marks, marked, decoded}
-use Rattle.rules.specs.Verdict.{fine, verdict, row, in-vector, in-vector-at, _below_}
+use Rattle.rules.specs.Verdict.{Rows, row, _then_, fine, first, verdict, in-vector, in-vector-at, _below_}
 use Rattle.rules.specs.Examine.{unusedSet, isOther, strays, needless, unfilled, unlisted, standInOf, frameOff, widthOff, firstRows, rulesRows}
-use Rattle.rules.proofs.Rows.{row-passes, row-fine, row-first, first-passes, first-fine, is, isnt-false, same-number, not-other, or-false}
+use Rattle.rules.specs.Older.{vectorBy, valueRows}
+use Rattle.rules.proofs.Rows.{row-fine, row-first, first-passes, first-fine, first-end, is, isnt-false, same-number, not-other, or-false}
 use Rattle.rules.proofs.Order.{AtMost, least-below, least-one, width-holds}
 use Rattle.rules.proofs.Fields.{field-forth}
 use Rattle.rules.proofs.Tries.{Held, tried-some, none-excepted, tried-none}
 use Rattle.rules.proofs.Marks.{mark, marks-back, stored-nil, stored-here, stored-none, marks-skip}
-use Rattle.rules.proofs.Vectors.{length-fields, fields-back, wholes-back, filled-held}
-use Rattle.rules.proofs.Encoded.{length-filled}
+use Rattle.rules.proofs.Vectors.{ComesBack, turns-filled, length-fields, fields-back, wholes-back}
+use Rattle.rules.proofs.Encoded.{turned-count}
 use Rattle.rules.proofs.Decoded.{wholes-count, marked-count}
 use Rattle.rules.proofs.Pages.{Fit}
 use Rattle.rules.proofs.Reading.{Rising, Sound}
 
--- ---- an encoded vector passes
+-- ---- what the rows say of a vector that was encoded, by whatever way values are turned that come back
 
-module _ (fmt : Format) (p : Pair) (d : ℤ) where
-  -- a condition that is false at each value and what is made of it
-  first-pass : (a v i : ℕ) (at-fault : ℤ → Option ℕ → Bool) (vs : List ℕ) → ((x : ℕ) → at-fault (orElse d (tried fmt p x)) (mark (tried fmt p x) x) ≡ false)
-      → verdict (firstRows a v at-fault i (map (orElse d) (tries fmt p vs)) (zipWith mark (tries fmt p vs) vs)) ≡ fine
-  unfolding firstRows zipWith
-  first-pass a v i at-fault [] h = refl
-  first-pass a v i at-fault (x ∷ vs) h =
-      first-passes (verdict (row a (in-vector-at v i) (at-fault (orElse d (tried fmt p x)) (mark (tried fmt p x) x)))) _
-      (row-passes a (in-vector-at v i) (at-fault (orElse d (tried fmt p x)) (mark (tried fmt p x) x)) (h x)) (first-pass a v (suc i) at-fault vs h)
+module _ (turn : ℕ → Option ℤ) (d : ℤ) where
+  -- a condition at each whole number with its mark is one at each value
+  first-at : (a v i : ℕ) (at-fault : ℤ → Option ℕ → Bool) (moved : ℕ → Bool) (vs : List ℕ) → ((x : ℕ) → at-fault (orElse d (turn x)) (mark (turn x) x) ≡ moved x)
+      → firstRows a v at-fault i (map (orElse d) (map turn vs)) (zipWith mark (map turn vs) vs) ≡ valueRows a v moved i vs
+  unfolding firstRows zipWith valueRows
+  first-at a v i at-fault moved [] h = refl
+  first-at a v i at-fault moved (x ∷ vs) h = ap₂ (λ (b : Bool) (rows : Rows). row a (in-vector-at v i) b then rows) (h x) (first-at a v (suc i) at-fault moved vs h)
 
-  unlisted-back : (vs : List ℕ) → zipWith unlisted (map (orElse d) (tries fmt p vs)) (zipWith mark (tries fmt p vs) vs) ≡ tries fmt p vs
+  unlisted-back : (vs : List ℕ) → zipWith unlisted (map (orElse d) (map turn vs)) (zipWith mark (map turn vs) vs) ≡ map turn vs
   unfolding zipWith
   unlisted-back [] = refl
-  unlisted-back (x ∷ vs) = ap₂ (λ (t : Option ℤ) (ts : List (Option ℤ)). t ∷ ts) (one (tried fmt p x)) (unlisted-back vs)
+  unlisted-back (x ∷ vs) = ap₂ (λ (t : Option ℤ) (ts : List (Option ℤ)). t ∷ ts) (one (turn x)) (unlisted-back vs)
     where
       one : (t : Option ℤ) → unlisted (orElse d t) (mark t x) ≡ t
       one none = refl
       one (some z) = refl
 
+  never-unfilled : (x : ℕ) → unfilled d (orElse d (turn x)) (mark (turn x) x) ≡ false
+  never-unfilled x = go (turn x)
+    where
+      go : (t : Option ℤ) → unfilled d (orElse d t) (mark t x) ≡ false
+      go none = same-number d
+      go (some z) = refl
+
+abbrev never : ℕ → Bool
+never x = false
+
+none-at : (a v i : ℕ) (vs : List ℕ) → verdict (valueRows a v never i vs) ≡ fine
+unfolding valueRows
+none-at a v i [] = refl
+none-at a v i (x ∷ vs) = none-at a v (suc i) vs
+
+module _ (fmt : Format) (p : Pair) (turn : ℕ → Option ℤ) (comes : ComesBack fmt p turn) (vs : List ℕ) where
+  abbrev ts : List (Option ℤ)
+  ts = map turn vs
+
+  abbrev zs : List ℤ
+  zs = filled ts
+
+  abbrev fs : List ℕ
+  fs = fieldsOf zs
+
+  abbrev r : Raw
+  r = vectorBy fmt p turn vs
+
+  marked-back : marked r ≡ zipWith mark ts vs
+  unfolding marked rawOf
+  marked-back = ap (marks (places 0 ts) (picks ts vs) 0) (turned-count fmt p turn comes vs) ∙ marks-back 0 ts vs (length-map vs turn)
+
+  none-unused : unusedSet r ≡ false
+  unfolding rawOf
+  none-unused =
+      let w : ℕ = widthOf fs in
+      let h = each-below (2 ^ w) fs (pow-pos w) (width-holds fs) in
+      let e : 2 ^ (length fs * w) ≡ 2 ^ (length zs * w) = ap (λ (n : ℕ). 2 ^ (n * w)) (length-fields zs) in
+      ap not (lt-ltb (number (pack w fs)) (2 ^ (length zs * w)) (rw (of-pack w fs h, ← e) (fields-lt w fs h)))
+
+  pair-is : r .pair ≡ p
+  unfolding rawOf
+  pair-is = refl
+
+  wholes-is : wholes fmt r ≡ zs
+  wholes-is = wholes-back fmt p zs (places 0 ts) (picks ts vs) (turns-filled fmt p turn comes vs)
+
+  fields-is : fields r ≡ fs
+  fields-is = fields-back fmt p zs (places 0 ts) (picks ts vs)
+
+  frame-is : r .frame ≡ ofZ (word fmt) (least zs)
+  unfolding rawOf
+  frame-is = refl
+
+  width-is : r .width ≡ widthOf fs
+  unfolding rawOf
+  width-is = refl
+
+  -- it passes 20, 23 and 24; 21 and 22 go by what is made of each value
+  module _ (v : ℕ) (other needed : ℕ → Bool) (strayed : (x : ℕ) → strays fmt p (orElse (standIn ts) (turn x)) (mark (turn x) x) ≡ other x) (listed : (x : ℕ) → needless fmt p (orElse (standIn ts) (turn x)) (mark (turn x) x) ≡ needed x) where
+    pub rules-by : verdict (rulesRows fmt v (vectorBy fmt p turn vs)) ≡ first (verdict (valueRows 21 v other 0 vs)) (verdict (valueRows 22 v needed 0 vs))
+    unfolding rulesRows
+    rules-by =
+        let d : ℤ = standIn ts in
+        rw (
+          none-unused,
+          wholes-is,
+          marked-back,
+          fields-is,
+          pair-is,
+          frame-is,
+          width-is,
+          first-at turn d 21 v 0 (strays fmt p) other vs strayed,
+          first-at turn d 22 v 0 (needless fmt p) needed vs listed,
+          unlisted-back turn d vs,
+          first-at turn d 23 v 0 (unfilled d) never vs (never-unfilled turn d),
+          none-at 23 v 0 vs,
+          is (ofZ (word fmt) (least zs)) (ofZ (word fmt) (least zs)) refl,
+          is (widthOf fs) (widthOf fs) refl,
+        )
+        (ap (first (verdict (valueRows 21 v other 0 vs))) (first-end (verdict (valueRows 22 v needed 0 vs))))
+
+-- ---- by the rule it passes them all
+
+module _ (fmt : Format) (p : Pair) (d : ℤ) where
   never-strays : (x : ℕ) → strays fmt p (orElse d (tried fmt p x)) (mark (tried fmt p x) x) ≡ false
   never-strays x = go (tried fmt p x) refl
     where
@@ -73,74 +157,12 @@ module _ (fmt : Format) (p : Pair) (d : ℤ) where
       go none e = ap not (none-excepted fmt p x e)
       go (some z) e = refl
 
-  never-unfilled : (x : ℕ) → unfilled d (orElse d (tried fmt p x)) (mark (tried fmt p x) x) ≡ false
-  never-unfilled x = go (tried fmt p x)
-    where
-      go : (t : Option ℤ) → unfilled d (orElse d t) (mark t x) ≡ false
-      go none = same-number d
-      go (some z) = refl
-
-module _ (fmt : Format) (p : Pair) (vs : List ℕ) where
-  abbrev ts : List (Option ℤ)
-  ts = tries fmt p vs
-
-  abbrev zs : List ℤ
-  zs = filled ts
-
-  abbrev fs : List ℕ
-  fs = fieldsOf zs
-
-  marked-back : marked (encoded fmt p vs) ≡ zipWith mark ts vs
-  unfolding marked encoded rawOf
-  marked-back = ap (marks (places 0 ts) (picks ts vs) 0) (length-filled fmt p vs) ∙ marks-back 0 ts vs (length-map vs (tried fmt p))
-
-  none-unused : unusedSet (encoded fmt p vs) ≡ false
-  unfolding encoded rawOf
-  none-unused =
-      let w : ℕ = widthOf fs in
-      let h = each-below (2 ^ w) fs (pow-pos w) (width-holds fs) in
-      let e : 2 ^ (length fs * w) ≡ 2 ^ (length zs * w) = ap (λ (n : ℕ). 2 ^ (n * w)) (length-fields zs) in
-      ap not (lt-ltb (number (pack w fs)) (2 ^ (length zs * w)) (rw (of-pack w fs h, ← e) (fields-lt w fs h)))
-
-  pair-is : encoded fmt p vs .pair ≡ p
-  unfolding encoded rawOf
-  pair-is = refl
-
-  wholes-is : wholes fmt (encoded fmt p vs) ≡ zs
-  unfolding encoded
-  wholes-is = wholes-back fmt p zs (places 0 ts) (picks ts vs) (filled-held fmt p vs)
-
-  fields-is : fields (encoded fmt p vs) ≡ fs
-  unfolding encoded
-  fields-is = fields-back fmt p zs (places 0 ts) (picks ts vs)
-
-  frame-is : encoded fmt p vs .frame ≡ ofZ (word fmt) (least zs)
-  unfolding encoded rawOf
-  frame-is = refl
-
-  width-is : encoded fmt p vs .width ≡ widthOf fs
-  unfolding encoded rawOf
-  width-is = refl
-
-  pub encoded-passes : (v : ℕ) → verdict (rulesRows fmt v (encoded fmt p vs)) ≡ fine
-  unfolding rulesRows
-  encoded-passes v =
-      let d : ℤ = standIn ts in
-      rw (
-        none-unused,
-        wholes-is,
-        marked-back,
-        fields-is,
-        pair-is,
-        frame-is,
-        width-is,
-        first-pass fmt p d 21 v 0 (strays fmt p) vs (never-strays fmt p d),
-        first-pass fmt p d 22 v 0 (needless fmt p) vs (never-needless fmt p d),
-        unlisted-back fmt p d vs,
-        first-pass fmt p d 23 v 0 (unfilled d) vs (never-unfilled fmt p d),
-        is (ofZ (word fmt) (least zs)) (ofZ (word fmt) (least zs)) refl,
-        is (widthOf fs) (widthOf fs) refl,
-      )
+pub encoded-passes : (fmt : Format) (p : Pair) (vs : List ℕ) (v : ℕ) → verdict (rulesRows fmt v (encoded fmt p vs)) ≡ fine
+unfolding encoded
+encoded-passes fmt p vs v =
+    let d = standIn (tries fmt p vs) in
+    rules-by fmt p (tried fmt p) (tried-some fmt p) vs v never never (never-strays fmt p d) (never-needless fmt p d)
+    ∙ first-passes (verdict (valueRows 21 v never 0 vs)) (verdict (valueRows 22 v never 0 vs)) (none-at 21 v 0 vs) (none-at 22 v 0 vs)
 
 -- ---- a vector that passes is the one that is encoded for its values
 
@@ -158,7 +180,7 @@ first-never a v i at-fault (z ∷ zs) (m ∷ ms) e =
     let c = row-first a (in-vector-at v i) (at-fault z m) _ e in
     (c .0, first-never a v (suc i) at-fault zs ms (c .1))
 
-same-again : (z : ℤ) (t : Option ℤ) → isOther z t ≡ false → t ≡ some z
+pub same-again : (z : ℤ) (t : Option ℤ) → isOther z t ≡ false → t ≡ some z
 same-again z none h = let o : _≡_ {A = ℕ} 0 1 = cc in absurd (omega arith)
 same-again z (some y) h = ap some (sym (not-other z y h))
 

@@ -3,6 +3,7 @@ pub mod RoundTrip
 pub mod Accepted
 pub mod Examined
 pub mod Rounding
+pub mod Fast
 pub mod Nearest
 pub mod OnePage
 pub mod Called
@@ -10,6 +11,7 @@ pub mod GivenBy
 pub mod Listing
 pub mod Bits
 pub mod Done
+pub mod Older
 pub mod Stretch
 pub mod Choosing
 pub mod Shortest

@@ -4,22 +4,28 @@ use Prim.Native.Nat.{ℕ, suc, _+_, _-_, _*_, _/_, _%_, _^_, _≤_, _<_, compare
 use mathlib.Core.Path.{_≡_, refl, sym, ap, _∙_, subst}
 use mathlib.Core.Logic.{_⊎_, inl, inr}
 use mathlib.Core.Bool.{Bool, true, false, not, cond}
-use native.Mathlib.Nat.{le-trans, le-of-eq, le-antisymm, le-of-suc-le-suc, lt-of-not-le, div-add-mod', mod-lt, mul-le-mul-right, suc-mul, add-mul, mul-pos, mul-assoc, mul-comm, lt-of-lt-of-le, eq-zero-or-pos, div-lt-iff-lt-mul, le-div-iff-mul-le}
+use native.Mathlib.Nat.{le-trans, le-of-eq, le-antisymm, le-of-suc-le-suc, lt-of-not-le, le-of-lt, div-add-mod', mod-lt, mul-le-mul-right, suc-mul, add-mul, mul-pos, mul-assoc, mul-comm, lt-of-lt-of-le, eq-zero-or-pos, div-lt-iff-lt-mul, le-div-iff-mul-le}
+use native.Mathlib.Decide.{decLe}
 use native.Mathlib.Omega.{arith}
 use lib.IntN.{ℤ, pos, negsuc, natAbs}
 use lib.Signed.{nonNeg}
 use lib.Pow.{pow-add, pow-pos, pow-mono}
-use lib.Dec.{T, lit<, isLe, isEq, eqb, leb→le, nleb→lt, eqb→eq, eqb-refl}
+use lib.Dec.{T, lit<, ltb, isLe, isEq, eqb, leb→le, nleb→lt, eqb→eq, eqb-refl}
 use lib.Arith.{lt-of-le-ne}
-use lib.Ieee.{Format, Float, inf, fin, prec, low, emax, size, unlike, up, down, nearest, odd, units, round, mul, ofInt}
+use lib.Ieee.{Format, Float, inf, fin, prec, low, emax, size, unlike, up, down, nearest, odd, units, round, sum, add, sub, neg, mul, ofInt}
 use lib.Ieee.Digits.{size-lt, size-reaches}
 use lib.Ieee.Exact.{HasValue, units-val}
 use lib.Ieee.Order.{drop, kept}
-use borrow.Author.Tests.{le-ltb}
+use borrow.Author.Tests.{lt-ltb, le-ltb}
 use lib.Ieee.Fits.{down-pos, round-is, two}
 use lib.Ieee.Nearest.{closest}
-use Rattle.rules.specs.Decimal.{signed, whole}
-use Rattle.rules.specs.Floats.{NearestEven, RoundedOnce}
+use Rattle.rules.specs.Decimal.{signed, truncated}
+use Rattle.rules.specs.Older.{olderWhole}
+use Rattle.rules.specs.Floats.{NearestEven, RoundedOnce, sumSize, sumSign}
+
+-- one of two numbers is the smaller
+pub lt-or-le : (a b : ℕ) → (a < b) ⊎ (b ≤ a)
+lt-or-le a b = elim (decLe b a) [ yes h ↦ inr h | no h ↦ inl (lt-of-not-le h) ]
 
 -- ---- `closest` is nearest
 
@@ -92,15 +98,27 @@ only-nearest a b m n B x y =
     (le-of-suc-le-suc (lt-of-not-le (λ (h : n < m). no-larger a b n m B y x h)))
     (le-of-suc-le-suc (lt-of-not-le (λ (h : m < n). no-larger a b m n B x y h)))
 
--- ---- the whole number of a finite float
+-- ---- the older whole number of a finite float
 
-pub whole-nearest : (s : Bool) (m : ℕ) (e : ℤ) → (n : ℕ) × (whole (fin s m e) ≡ signed s n) × NearestEven (m * up e) (down e) n
-unfolding whole
-whole-nearest s m e = (closest (m * up e) (down e), refl, closest-nearest (m * up e) (down e) (down-pos e))
+pub older-nearest : (s : Bool) (m : ℕ) (e : ℤ) → (n : ℕ) × (olderWhole (fin s m e) ≡ signed s n) × NearestEven (m * up e) (down e) n
+unfolding olderWhole
+older-nearest s m e = (closest (m * up e) (down e), refl, closest-nearest (m * up e) (down e) (down-pos e))
 
-pub whole-only : (s : Bool) (m : ℕ) (e : ℤ) (n : ℕ) → NearestEven (m * up e) (down e) n → whole (fin s m e) ≡ signed s n
-unfolding whole
-whole-only s m e n h = ap (signed s) (only-nearest (m * up e) (down e) (closest (m * up e) (down e)) n (down-pos e) (closest-nearest (m * up e) (down e) (down-pos e)) h)
+pub older-only : (s : Bool) (m : ℕ) (e : ℤ) (n : ℕ) → NearestEven (m * up e) (down e) n → olderWhole (fin s m e) ≡ signed s n
+unfolding olderWhole
+older-only s m e n h = ap (signed s) (only-nearest (m * up e) (down e) (closest (m * up e) (down e)) n (down-pos e) (closest-nearest (m * up e) (down e) (down-pos e)) h)
+
+-- ---- a float without its fraction
+
+pub truncated-under : (s : Bool) (m : ℕ) (e : ℤ) → (n : ℕ) × (truncated (fin s m e) ≡ signed s n) × (n * down e ≤ m * up e) × (m * up e < suc n * down e)
+unfolding truncated
+truncated-under s m e =
+    let a = m * up e in
+    let d = down e in
+    let split : a / d * d + a % d ≡ a = div-add-mod' a d in
+    let less : a % d < d = mod-lt a (down-pos e) in
+    let more : suc (a / d) * d ≡ a / d * d + d = suc-mul (a / d) d in
+    (a / d, refl, omega arith, omega arith)
 
 -- ---- `round` rounds once
 
@@ -166,3 +184,29 @@ pub ofInt-once : (fmt : Format) (z : ℤ) → RoundedOnce fmt (not (nonNeg z)) (
 unfolding ofInt
 ofInt-once fmt (pos n) = round-once fmt false n 1 (lit< tt)
 ofInt-once fmt (negsuc n) = round-once fmt true (suc n) 1 (lit< tt)
+
+-- a sum of finite floats: the exact sum over the product of the denominators, and one rounding
+pub sum-once : (fmt : Format) (s t : Bool) (a b c : ℕ) → 0 < c → RoundedOnce fmt (sumSign s a t b) (sumSize s a t b) c (sum fmt s a t b c)
+unfolding sum
+sum-once fmt true true a b c C = round-once fmt true (a + b) c C
+sum-once fmt false false a b c C = round-once fmt false (a + b) c C
+sum-once fmt true false a b c C =
+    elim (lt-or-le a b) [
+      | inl l ↦ rw (lt-ltb a b l, le-ltb b a (le-of-lt l)) (subst (λ (n : ℕ). RoundedOnce fmt false n c (round fmt false (b - a) c)) (omega arith) (round-once fmt false (b - a) c C))
+      | inr l ↦ rw (le-ltb a b l) (subst (λ (n : ℕ). RoundedOnce fmt (ltb b a) n c (round fmt (ltb b a) (a - b) c)) (omega arith) (round-once fmt (ltb b a) (a - b) c C))
+    ]
+sum-once fmt false true a b c C =
+    elim (lt-or-le a b) [
+      | inl l ↦ rw (lt-ltb a b l) (subst (λ (n : ℕ). RoundedOnce fmt true n c (round fmt true (b - a) c)) (omega arith) (round-once fmt true (b - a) c C))
+      | inr l ↦ rw (le-ltb a b l) (subst (λ (n : ℕ). RoundedOnce fmt false n c (round fmt false (a - b) c)) (omega arith) (round-once fmt false (a - b) c C))
+    ]
+
+pub add-once : (fmt : Format) (s t : Bool) (m n : ℕ) (e d : ℤ)
+    → RoundedOnce fmt (sumSign s (m * up e * down d) t (n * up d * down e)) (sumSize s (m * up e * down d) t (n * up d * down e)) (down e * down d) (add fmt (fin s m e) (fin t n d))
+unfolding add
+add-once fmt s t m n e d = sum-once fmt s t (m * up e * down d) (n * up d * down e) (down e * down d) (mul-pos (down-pos e) (down-pos d))
+
+-- a difference is the sum with the sign of what is taken off turned round
+pub sub-is : (fmt : Format) (x : Float) (t : Bool) (n : ℕ) (d : ℤ) → sub fmt x (fin t n d) ≡ add fmt x (fin (not t) n d)
+unfolding sub neg
+sub-is fmt x t n d = refl

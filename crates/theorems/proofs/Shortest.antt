@@ -62,8 +62,8 @@ module _ (fmt : Format) (s : ℕ) (vs : List ℕ) where
   unfolding pageOf
   page-size ps high ok =
       let small : 2 ^ s ≤ 2 ^ maxS = pow-mono high in
-      length-layout fmt s (length vs) (encodedAll fmt (2 ^ s) ps vs) (all-fit fmt (2 ^ s) small ps vs ok)
-      ∙ ap (λ (n : ℕ). 8 + (4 * n + total fmt (encodedAll fmt (2 ^ s) ps vs))) (length-all fmt (2 ^ s) small ps vs)
+      length-layout fmt s (length vs) (encodedAll fmt (2 ^ s) ps vs) (all-fit fmt (2 ^ s) ps vs small ok)
+      ∙ ap (λ (n : ℕ). 8 + (4 * n + total fmt (encodedAll fmt (2 ^ s) ps vs))) (length-all fmt (2 ^ s) ps vs)
 
   pub chosen-page : (ps : List Pair) → Inside fmt s ps (length vs) → Values fmt vs → length (pageOf fmt s (chosenPairs fmt s vs) vs) ≤ length (pageOf fmt s ps vs)
   chosen-page ps i ok =

@@ -92,7 +92,7 @@ module _ (fmt : Format) (s size count : ℕ) (bs vs : List ℕ) (t : Settled fmt
   small = subst (λ (x : ℕ). x ≤ 2 ^ maxS) (sym es) (pow-mono (t .inside .high))
 
   long-all : length (all fmt size bs vs) ≡ count
-  long-all = length-all fmt size small (pairsOf bs) vs ∙ t .inside .one-each ∙ sym ec
+  long-all = length-all fmt size (pairsOf bs) vs ∙ t .inside .one-each ∙ sym ec
 
   pub long-table : length (table fmt size count bs vs) ≡ 4 * count
   long-table = length-les 4 (starts fmt (4 * count) (all fmt size bs vs)) ∙ omega (arith, length-starts fmt (4 * count) (all fmt size bs vs), long-all)

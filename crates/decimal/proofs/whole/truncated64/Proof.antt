@@ -1,15 +1,15 @@
--- `whole::nearest64` meets its contract: the digits, shifted by the exponent's field, are the magnitude. Assumes nothing.
+-- `whole::truncated64` meets its contract: the digits, shifted by the exponent's field, are the magnitude without its fraction. Assumes nothing.
 use lib.Ieee.{binary64}
-use Rattle.decimal.proofs.Rounding.{Near, near}
+use Rattle.decimal.proofs.Rounding.{Cut, cut-is}
 use borrow.Author.Needs.{needs}
-use Rattle.decimal.proofs.whole.nearest64.Statement.{statement}
-use Rattle.decimal.proofs.whole.nearest64.Tie as tie
-use Rattle.decimal.proofs.whole.nearest64.Reads as reads
-use Rattle.decimal.proofs.whole.nearest64.Lts as lts
+use Rattle.decimal.proofs.whole.truncated64.Statement.{statement}
+use Rattle.decimal.proofs.whole.truncated64.Tie as tie
+use Rattle.decimal.proofs.whole.truncated64.Reads as reads
+use Rattle.decimal.proofs.whole.truncated64.Lts as lts
 use Rattle.decimal.proofs.whole.shifted.Reads as shifted-reads
 
-is : (c : tie.After-shifted) → Near binary64 (c .before .args .bits) (c .shifted .result)
-is c = near binary64 (c .before .args .bits) (c .shifted .result) (c .before .pre) (c .shifted .ensures)
+is : (c : tie.After-shifted) → Cut binary64 (c .before .args .bits) (c .shifted .result)
+is c = cut-is binary64 (c .before .args .bits) (c .shifted .result) (c .before .pre) (c .shifted .ensures)
 
 add-digits : tie.Need-add-digits
 add-digits c = search needs
@@ -32,7 +32,7 @@ returns c = is (c .before) .plus (c .if1 .taken)
 returns-2 : tie.Need-returns-2
 returns-2 c = is (c .before) .less (c .if1 .left)
 
-pub nearest64-spec : {M : Type 1} → statement M
-nearest64-spec =
+pub truncated64-spec : {M : Type 1} → statement M
+truncated64-spec =
     tie.close
     (tie.spec add-digits shifted-requires cast-result cast-result-2 sub-result returns returns-2)

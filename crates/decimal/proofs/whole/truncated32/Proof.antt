@@ -1,15 +1,15 @@
--- `whole::nearest32` meets its contract: the digits, shifted by the exponent's field, are the magnitude. Assumes nothing.
+-- `whole::truncated32` meets its contract: the digits, shifted by the exponent's field, are the magnitude without its fraction. Assumes nothing.
 use lib.Ieee.{binary32}
-use Rattle.decimal.proofs.Rounding.{Near, near}
+use Rattle.decimal.proofs.Rounding.{Cut, cut-is}
 use borrow.Author.Needs.{needs}
-use Rattle.decimal.proofs.whole.nearest32.Statement.{statement}
-use Rattle.decimal.proofs.whole.nearest32.Tie as tie
-use Rattle.decimal.proofs.whole.nearest32.Reads as reads
-use Rattle.decimal.proofs.whole.nearest32.Lts as lts
+use Rattle.decimal.proofs.whole.truncated32.Statement.{statement}
+use Rattle.decimal.proofs.whole.truncated32.Tie as tie
+use Rattle.decimal.proofs.whole.truncated32.Reads as reads
+use Rattle.decimal.proofs.whole.truncated32.Lts as lts
 use Rattle.decimal.proofs.whole.shifted.Reads as shifted-reads
 
-is : (c : tie.After-shifted) → Near binary32 (c .before .args .bits) (c .shifted .result)
-is c = near binary32 (c .before .args .bits) (c .shifted .result) (c .before .pre) (c .shifted .ensures)
+is : (c : tie.After-shifted) → Cut binary32 (c .before .args .bits) (c .shifted .result)
+is c = cut-is binary32 (c .before .args .bits) (c .shifted .result) (c .before .pre) (c .shifted .ensures)
 
 add-digits : tie.Need-add-digits
 add-digits c = search needs
@@ -38,8 +38,8 @@ returns c = is (c .before) .plus (c .if1 .taken)
 returns-2 : tie.Need-returns-2
 returns-2 c = is (c .before) .less (c .if1 .left)
 
-pub nearest32-spec : {M : Type 1} → statement M
-nearest32-spec =
+pub truncated32-spec : {M : Type 1} → statement M
+truncated32-spec =
     tie.close
     (tie.spec
     add-digits
