@@ -126,23 +126,23 @@ fn documents_values() {
 
 // Edges of 32-bit values: one multiplication or two, ties, L, the ends of the range, and what is no number.
 fn edges32() {
-    value32(0x43F0F756, 5, 1);
-    value32(0x49B5237D, 2, 1);
-    value32(0x45B3B800, 5, 1);
-    value32(0x42BC0000, 6, 1);
+    value32(0x4209DCC4, 8, 3);
+    value32(0xC9B5237D, 2, 1);
+    value32(0xC5B3B800, 5, 1);
+    value32(0xC2BC0000, 6, 1);
     value32(0x4A97FCE2, 2, 1);
     value32(0x3F666666, 1, 0);
     value32(0x3F666666, 2, 1);
-    value32(0x46029F9A, 3, 0);
-    value32(0xC6029F9A, 3, 0);
-    value32(0x479AECA6, 2, 0);
-    value32(0x478C6134, 2, 0);
+    value32(0x3EB851EC, 10, 3);
+    value32(0xBEB851EC, 10, 3);
+    value32(0x40848312, 8, 2);
+    value32(0x4709788C, 8, 6);
     value32(0x2EDBE6FF, 10, 0);
     value32(0x40400000, 10, 10);
     value32(0xCEFFFFFF, 0, 0);
     value32(0xCF000000, 0, 0);
-    value32(0x4D4CCCCC, 1, 0);
-    value32(0x4D4CCCCD, 1, 0);
+    value32(0xCD4CCCCC, 1, 0);
+    value32(0xCD4CCCCD, 1, 0);
     value32(0xBE99999A, 0, 0);
     value32(0xBE99999A, 1, 0);
     value32(0x00000000, 10, 3);
@@ -156,14 +156,52 @@ fn edges32() {
     value32(0x7F800001, 0, 0);
 }
 
+// The constant added and subtracted: about 2^22 and 2^23, where the sum goes to even, where a fraction is dropped, and about L.
+fn rounding32() {
+    value32(0x4A7FFFFC, 0, 0);
+    value32(0x4A7FFFFE, 0, 0);
+    value32(0x4A800000, 0, 0);
+    value32(0x4A800001, 0, 0);
+    value32(0x4A800004, 0, 0);
+    value32(0x4A800006, 0, 0);
+    value32(0xCA7FFFFE, 0, 0);
+    value32(0xCA800000, 0, 0);
+    value32(0xCA800001, 0, 0);
+    value32(0xCA800002, 0, 0);
+    value32(0x4AFFFFFE, 0, 0);
+    value32(0x4B000000, 0, 0);
+    value32(0x4B000001, 0, 0);
+    value32(0xCAFFFFFF, 0, 0);
+    value32(0xCB000001, 0, 0);
+    value32(0x4BA00001, 0, 0);
+    value32(0xCBA00001, 0, 0);
+    value32(0x48CCCCD0, 1, 0);
+    value32(0xC8CCCCD0, 1, 0);
+    value32(0x4112B717, 10, 4);
+    value32(0x47B0F780, 5, 3);
+    value32(0x49B5237D, 2, 1);
+    value32(0x45B3B800, 5, 1);
+    value32(0x40E00000, 9, 3);
+    value32(0x425D3333, 9, 4);
+    value32(0xC3F0F756, 5, 1);
+    value32(0xC79AECA6, 2, 0);
+    value32(0xC78C6134, 2, 0);
+    value32(0xC6029F9A, 3, 0);
+    value32(0xC294DFBE, 7, 2);
+    value32(0xC21E6666, 9, 4);
+    value32(0x4EFFFFFE, 0, 0);
+    value32(0x4D4CCCCC, 2, 1);
+    value32(0x4A03126E, 4, 1);
+}
+
 // The same of 64-bit values, with 2^62 and 1.5 times 2^62.
 fn edges64() {
-    value64(0x40A2ACAD871D05B0, 13, 1);
-    value64(0x408561999999999A, 14, 1);
+    value64(0x40A0610A917A2CBA, 17, 5);
+    value64(0xC08561999999999A, 14, 1);
     value64(0x3FD3333333333333, 1, 0);
     value64(0x3FD3333333333333, 2, 1);
-    value64(0x4182C9AD83374BC7, 8, 0);
-    value64(0x41B4A3BA108CDF26, 7, 0);
+    value64(0x414010A57EB851EC, 18, 9);
+    value64(0x414098D3A6666666, 16, 7);
     value64(0x3CA1B9E627A00D07, 18, 0);
     value64(0x4008000000000000, 18, 18);
     value64(0x43DFFFFFFFFFFFFF, 0, 0);
@@ -183,6 +221,41 @@ fn edges64() {
     value64(0x7FF8000000000000, 0, 0);
     value64(0xFFF8DEADBEEF0001, 0, 0);
     value64(0x7FF0000000000001, 0, 0);
+}
+
+// As `rounding32`, about 2^51 and 2^52, and a value at which the constant of 32-bit floats would show.
+fn rounding64() {
+    value64(0x431FFFFFFFFFFFFC, 0, 0);
+    value64(0x431FFFFFFFFFFFFE, 0, 0);
+    value64(0x4320000000000000, 0, 0);
+    value64(0x4320000000000001, 0, 0);
+    value64(0x4320000000000002, 0, 0);
+    value64(0x4320000000000004, 0, 0);
+    value64(0x4320000000000006, 0, 0);
+    value64(0xC31FFFFFFFFFFFFE, 0, 0);
+    value64(0xC320000000000000, 0, 0);
+    value64(0xC320000000000001, 0, 0);
+    value64(0xC320000000000002, 0, 0);
+    value64(0x432FFFFFFFFFFFFE, 0, 0);
+    value64(0x4330000000000000, 0, 0);
+    value64(0x4330000000000001, 0, 0);
+    value64(0xC32FFFFFFFFFFFFF, 0, 0);
+    value64(0xC330000000000001, 0, 0);
+    value64(0x42E999999999999D, 1, 0);
+    value64(0xC2E999999999999D, 1, 0);
+    value64(0x42FC096DC8F2DEC0, 8, 7);
+    value64(0x4189DE7CFFDC0C20, 11, 3);
+    value64(0x408561999999999A, 14, 1);
+    value64(0x4052117734CCE743, 14, 0);
+    value64(0xC010666666666666, 15, 0);
+    value64(0xC1B4A3BA108CDF26, 7, 0);
+    value64(0xC182C9AD83374BC7, 8, 0);
+    value64(0xC150EF2200000000, 15, 6);
+    value64(0xC1E031ACD6366666, 12, 6);
+    value64(0xC0F46BC028F5C28F, 2, 0);
+    value64(0x43DFFFFFFFFFFFFE, 0, 0);
+    value64(0x43A9999999999999, 6, 5);
+    value64(0x4195FD7FE1796495, 14, 3);
 }
 
 fn space(n: u64) {
@@ -254,7 +327,9 @@ fn widths() {
 fn main() {
     documents_values();
     edges32();
+    rounding32();
     edges64();
+    rounding64();
     unpacked();
     unused();
     widths();

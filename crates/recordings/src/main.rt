@@ -1,12 +1,13 @@
-// Runs document 01's recordings, a page read vector by vector, vectors whose pair is chosen, a column written into outputs of edge lengths,
-// and columns of edge lengths through the library and prints what each call answers and gives; the gate holds the output to what an
-// independent program over exact fractions gives.
+// Runs document 01's recordings, the edges of the fast rounding, a page read vector by vector, vectors whose pair is chosen, a column written
+// into outputs of edge lengths, and columns of edge lengths through the library and prints what each call answers and gives; the gate holds
+// the output to what an independent program over exact fractions gives.
 mod chosen;
 mod columns;
 mod examined;
 mod lent;
 mod pages;
 mod refused;
+mod rounded;
 mod show;
 mod starred;
 mod vectors;
@@ -15,6 +16,7 @@ fn main() {
     starred::run();
     refused::run();
     examined::run();
+    rounded::run();
     vectors::run();
     chosen::run();
     lent::run();

@@ -9,7 +9,7 @@ use crate::show::line;
 use writer::write32;
 use writer::write64;
 
-fn round32(name: &[u8], s: u8, e: u8, f: u8, values: &[u32]) {
+pub fn round32(name: &[u8], s: u8, e: u8, f: u8, values: &[u32]) {
     chosen32(name, values);
     let pairs: [u8; 2] = [e, f];
     let mut page: [u8; 80] = [0xEE; 80];
@@ -27,7 +27,7 @@ fn round32(name: &[u8], s: u8, e: u8, f: u8, values: &[u32]) {
     both32(name, &page[0..length]);
 }
 
-fn round64(name: &[u8], s: u8, e: u8, f: u8, values: &[u64]) {
+pub fn round64(name: &[u8], s: u8, e: u8, f: u8, values: &[u64]) {
     chosen64(name, values);
     let pairs: [u8; 2] = [e, f];
     let mut page: [u8; 80] = [0xEE; 80];
@@ -76,10 +76,10 @@ pub fn run() {
     // 1.5
     let r7: [u64; 1] = [0x3FF8000000000000];
     round64(b"R7", 10, 1, 0, &r7);
-    // 4194305.0
+    // 4194305.0, rounded to 4,194,304
     let r8: [u32; 1] = [0x4A800002];
     round32(b"R8", 10, 0, 0, &r8);
-    // 2147483520.0
+    // 2147483520.0, rounded to 2^31
     let r9a: [u32; 1] = [0x4EFFFFFF];
     round32(b"R9a", 10, 0, 0, &r9a);
     // 2147483648.0
