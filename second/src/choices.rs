@@ -2,11 +2,12 @@
 //! of a chooser would give another pair. A comparison that met no such vector
 //! would not see the mistake.
 
-use crate::choose::{first_fewest, trials, Trial};
-use crate::columns::{any_pair, special, vector_values};
+use crate::choose::{first_fewest, trials, trials_by, Trial};
+use crate::columns::{any_pair, at_rounding, special, vector_values};
 use crate::floats::{Kind, Pair, TENS_64};
 use crate::frames::Request;
 use crate::layout::{HEADER, MOST_IN_VECTOR, OFFSET, POSITION};
+use crate::older;
 use crate::random::Random;
 
 /// How a vector is made.
@@ -36,11 +37,14 @@ pub enum Sort {
     FarEnd,
     /// Values that whole numbers come back as with some pair.
     Back,
+    /// Values whose scaled value lies where the fast rounding turns, with some
+    /// pair.
+    Rounding,
     /// As the columns of the other comparisons.
     Column,
 }
 
-pub const SORTS: [Sort; 13] = [
+pub const SORTS: [Sort; 14] = [
     Sort::Decimals,
     Sort::TwoScales,
     Sort::Mixed,
@@ -53,6 +57,7 @@ pub const SORTS: [Sort; 13] = [
     Sort::BadStart,
     Sort::FarEnd,
     Sort::Back,
+    Sort::Rounding,
     Sort::Column,
 ];
 
@@ -88,7 +93,8 @@ struct Decimals {
 impl Decimals {
     fn any(kind: Kind, random: &mut Random) -> Decimals {
         let digits = random.between(0, kind.largest_exponent());
-        let largest = if kind == Kind::Single { 22 } else { 50 };
+        // Far enough that the fast rounding has turned.
+        let largest = if kind == Kind::Single { 24 } else { 53 };
         let base = random.of_bits(largest) as i64;
         let base = if random.one_in(4) { -base } else { base };
         Decimals { digits, base, range: 1 << random.between(0, 20) }
@@ -141,6 +147,7 @@ pub fn vector(sort: Sort, kind: Kind, count: usize, random: &mut Random) -> Vec<
             let whole = random.of_bits(kind.bits() / 2) as i64;
             kind.back(whole, pair.exponent, pair.factor)
         }
+        Sort::Rounding => at_rounding(kind, pair, random),
         _ => main.value(kind, random),
     };
     (0..count).map(value).collect()
@@ -156,11 +163,12 @@ pub enum Sight {
     NoRounding,
     ExceptionsAlone,
     WidthAlone,
+    OlderTurn,
     SomeExceptions,
     AllExceptions,
 }
 
-pub const SIGHTS: [Sight; 9] = [
+pub const SIGHTS: [Sight; 10] = [
     Sight::Tie,
     Sight::FactorFirst,
     Sight::LastOfFewest,
@@ -168,6 +176,7 @@ pub const SIGHTS: [Sight; 9] = [
     Sight::NoRounding,
     Sight::ExceptionsAlone,
     Sight::WidthAlone,
+    Sight::OlderTurn,
     Sight::SomeExceptions,
     Sight::AllExceptions,
 ];
@@ -182,6 +191,7 @@ impl Sight {
             Sight::NoRounding => "not rounded up to bytes: another",
             Sight::ExceptionsAlone => "fewest exceptions alone: another",
             Sight::WidthAlone => "least width alone: another",
+            Sight::OlderTurn => "nearest whole numbers: another",
             Sight::SomeExceptions => "the best has some exceptions",
             Sight::AllExceptions => "exceptions alone, with every pair",
         }
@@ -208,6 +218,9 @@ pub fn sights(kind: Kind, values: &[u64]) -> Vec<Sight> {
         Sight::NoRounding => first_fewest(&trials, bits) != best,
         Sight::ExceptionsAlone => first_fewest(&trials, |trial| trial.exceptions) != best,
         Sight::WidthAlone => first_fewest(&trials, |trial| trial.width) != best,
+        Sight::OlderTurn => {
+            first_fewest(&trials_by(older::whole, kind, values), bytes).pair != best.pair
+        }
         Sight::SomeExceptions => (1..count).contains(&best.exceptions),
         Sight::AllExceptions => trials.iter().all(|trial| trial.exceptions == count),
     };

@@ -6,7 +6,7 @@
 //! This is the full search: no pair is left early.
 
 use crate::answer::{refuse, Fault, Refusal};
-use crate::floats::{Kind, Pair};
+use crate::floats::{Kind, Pair, Turn};
 use crate::layout::{vector_bytes, MOST_IN_VECTOR};
 use crate::write::cost;
 
@@ -34,8 +34,13 @@ pub fn pairs(kind: Kind) -> Vec<Pair> {
 
 /// The vector with each pair, in their order.
 pub fn trials(kind: Kind, values: &[u64]) -> Vec<Trial> {
+    trials_by(Kind::whole, kind, values)
+}
+
+/// The same, its whole numbers by a turn.
+pub fn trials_by(turn: Turn, kind: Kind, values: &[u64]) -> Vec<Trial> {
     let with = |pair: Pair| {
-        let (width, exceptions) = cost(kind, values, pair.exponent, pair.factor);
+        let (width, exceptions) = cost(turn, kind, values, pair.exponent, pair.factor);
         Trial { pair, width, exceptions }
     };
     pairs(kind).into_iter().map(with).collect()

@@ -3,7 +3,7 @@
 //! A column is built sound, vector by vector, from flavours of values that
 //! lie where the rules turn. Then, by its index, a fault may be put in.
 
-use crate::floats::{Kind, Pair, KINDS, LARGEST_32, LARGEST_64, TENS_64};
+use crate::floats::{Kind, Pair, KINDS, TENS_64};
 use crate::layout::{bound, is_vector_size, vectors, MOST_VALUES};
 use crate::random::Random;
 use crate::rooms::{exceptions, Room, Shape, ENOUGH};
@@ -52,13 +52,15 @@ enum Flavour {
     NearPowers,
     /// Values whose scaled value lies on or beside a half.
     Halves,
+    /// Values whose scaled value lies where the fast rounding turns.
+    Rounding,
     /// Values that whole numbers come back as, and their neighbours.
     Back,
     /// Powers of ten, and of two.
     Powers,
 }
 
-const FLAVOURS: [Flavour; 9] = [
+const FLAVOURS: [Flavour; 10] = [
     Flavour::Decimals,
     Flavour::Wholes,
     Flavour::RandomBits,
@@ -66,6 +68,7 @@ const FLAVOURS: [Flavour; 9] = [
     Flavour::NearLargest,
     Flavour::NearPowers,
     Flavour::Halves,
+    Flavour::Rounding,
     Flavour::Back,
     Flavour::Powers,
 ];
@@ -88,6 +91,7 @@ fn value(flavour: Flavour, kind: Kind, pair: Pair, random: &mut Random) -> u64 {
         Flavour::NearLargest => near_largest(kind, pair, random),
         Flavour::NearPowers => near_powers(kind, pair, random),
         Flavour::Halves => half(kind, pair, random),
+        Flavour::Rounding => at_rounding(kind, pair, random),
         Flavour::Back => back(kind, pair, random),
         Flavour::Powers => power(kind, random),
     };
@@ -126,11 +130,7 @@ pub fn special(kind: Kind, random: &mut Random) -> u64 {
 }
 
 fn near_largest(kind: Kind, pair: Pair, random: &mut Random) -> u64 {
-    let largest = match kind {
-        Kind::Single => f64::from(LARGEST_32),
-        Kind::Double => LARGEST_64,
-    };
-    kind.nearest(largest / scale(pair)).wrapping_add_signed(random.near(4))
+    kind.nearest(kind.largest() / scale(pair)).wrapping_add_signed(random.near(4))
 }
 
 /// 2^22 to 2^24 and 2^51 to 2^53 are where the constants of the sources and
@@ -153,6 +153,28 @@ fn half(kind: Kind, pair: Pair, random: &mut Random) -> u64 {
     let most = *random.choose(&[3, 10, 22, 30, 51]);
     let value = (random.of_bits(most) as f64 + 0.5) / scale(pair);
     kind.nearest(value).wrapping_add_signed(random.near(1))
+}
+
+/// The scaled value lies a few floats beside a power of two from 2^22 or 2^51
+/// up to L, beside a place from which the sum reaches one, anywhere in the
+/// first such powers, on a half in them, or beside L. Both signs are met.
+pub fn at_rounding(kind: Kind, pair: Pair, random: &mut Random) -> u64 {
+    let first = if kind == Kind::Single { 22 } else { 51 };
+    let power = f64::powi(2.0, random.between(first, kind.bits() - 1) as i32);
+    let low = 1u64 << first;
+    let beside = |scaled: f64, far: usize, random: &mut Random| {
+        kind.scaled(kind.nearest(scaled).wrapping_add_signed(random.near(far)), 0, 0)
+    };
+    let scaled = match random.below(6) {
+        0 => beside(power, 6, random),
+        1 => beside(power - kind.rounder(), 6, random),
+        2 => (low + random.below(low as usize) as u64) as f64,
+        3 => (2 * low + random.below(2 * low as usize) as u64) as f64,
+        4 => (low + random.below(low as usize) as u64) as f64 + 0.5,
+        _ => beside(kind.largest(), 2, random),
+    };
+    let scaled = if random.one_in(3) { -scaled } else { scaled };
+    kind.nearest(scaled / scale(pair)).wrapping_add_signed(random.near(1))
 }
 
 fn back(kind: Kind, pair: Pair, random: &mut Random) -> u64 {

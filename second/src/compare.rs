@@ -3,15 +3,16 @@
 
 use std::fmt::Write;
 
-use crate::answer::{Answer, Call, Outcome};
+use crate::answer::{answer_of, Answer, Call, Outcome};
 use crate::ask::{every, two, worn, Question};
 use crate::choices::{self, Place, SORTS, TURNS};
-use crate::columns::{column, shaped_column};
+use crate::columns::{column, shaped_column, Column};
 use crate::driver::{split, Program, Running};
-use crate::floats::{Kind, KINDS};
+use crate::floats::{Kind, Pair, KINDS};
 use crate::forge::forged;
 use crate::frames::{self, value_bytes, Reply, Request, MALFORMED};
 use crate::layout::MOST_IN_VECTOR;
+use crate::older::{self, Fate, FATES};
 use crate::random::Random;
 use crate::read::{parse_header, read};
 use crate::read_vector::read_vector;
@@ -29,11 +30,14 @@ struct Case {
     width: Option<usize>,
     /// What the other program's place has to be, where that is known before.
     place: Option<Place>,
+    /// What both programs have to say, where that is known before.
+    wanted: Option<Reply>,
 }
 
 impl Case {
     fn of(origin: &str, request: Request) -> Case {
-        Case { origin: origin.into(), request, faulty: false, width: None, place: None }
+        let (origin, faulty, width) = (origin.into(), false, None);
+        Case { origin, request, faulty, width, place: None, wanted: None }
     }
 }
 
@@ -58,9 +62,13 @@ const WORN: u64 = 3;
 const WIDTHS: u64 = 4;
 const ROOMS: u64 = 5;
 const CHOICES: u64 = 6;
+const OLDER: u64 = 7;
 
 /// How many columns of each shape are written into every room.
 const SHAPED: usize = 12;
+
+/// How many older pages are made for each fate, of each kind and seed.
+const OLDER_PAGES: usize = 150;
 
 /// A comparison with one program, and what it has found so far.
 pub struct Comparison<'a> {
@@ -106,6 +114,7 @@ impl<'a> Comparison<'a> {
             if let (Ok(length), reply) = write.perform() {
                 let page = reply.output[..length].to_vec();
                 self.read_back(&origin, kind, &page, &values);
+                self.count_edges(&write);
                 let output = lend(kind, values.len() + random.below(9), &mut random);
                 self.put(&origin, Request::Read { kind, page: page.clone(), output })?;
                 let questions = every(&page, &mut random);
@@ -228,6 +237,69 @@ impl<'a> Comparison<'a> {
         self.finish()
     }
 
+    /// Compares pages by the older rule: read, whole and by vectors, they give
+    /// their values; examined, they are accepted or refused as the two ways to
+    /// a whole number say; and the values written again are accepted.
+    pub fn older(&mut self, seed: u64) -> Result<(), String> {
+        for kind in KINDS {
+            for fate in FATES {
+                for turn in 0..OLDER_PAGES {
+                    let index = (kind.bits() * 10 + fate as usize) * 10_000 + turn;
+                    let mut random = Random::of_case(seed, OLDER, index as u64);
+                    let made = older::column(fate, kind, &mut random);
+                    let origin = format!("seed {seed}, older page for {fate:?}, turn {turn}");
+                    self.older_page(&origin, made, &mut random)?;
+                }
+            }
+        }
+        self.finish()
+    }
+
+    /// Puts the older page of one column.
+    fn older_page(
+        &mut self,
+        origin: &str,
+        made: Column,
+        random: &mut Random,
+    ) -> Result<(), String> {
+        let (size, _) = made.sizes();
+        let Column { kind, s, values, pairs, .. } = made;
+        let count = values.len();
+        let page = older::page(kind, s, &values, &pairs);
+        let (fate, outcome) = older::told(kind, s, &values, &pairs);
+        self.tally.count_fate(kind, fate, outcome.map_or_else(|refusal| refusal.vector, |_| 0));
+
+        let output = lend(kind, count + random.below(9), random);
+        let left = [&values[..], &output[count..]].concat();
+        let read = Request::Read { kind, page: page.clone(), output };
+        self.put_wanted(origin, read, Ok(count), value_bytes(kind, &left))?;
+        let questions = every(&page, random);
+        self.ask(origin, kind, &page, questions, random)?;
+        let examine = Request::Examine { kind, page: page.clone() };
+        self.put_wanted(origin, examine, outcome, Vec::new())?;
+
+        let output = random.bytes(size);
+        let write = Request::Write { kind, s, values, pairs, output };
+        let again = write.perform().1.output;
+        if (again == page) != (fate == Fate::Kept) {
+            self.report(&format!("{origin}: the page is not new just where a value moved"));
+        }
+        self.put_wanted(origin, write, Ok(size), again.clone())?;
+        let examine = Request::Examine { kind, page: again };
+        self.put_wanted(origin, examine, Ok(count), Vec::new())
+    }
+
+    /// Counts what the values of a column that has a page show.
+    fn count_edges(&mut self, write: &Request) {
+        let Request::Write { kind, s, values, pairs, .. } = write else { return };
+        for (values, pair) in values.chunks(1 << s).zip(pairs.chunks_exact(2)) {
+            let pair = Pair { exponent: pair[0].into(), factor: pair[1].into() };
+            for value in values {
+                self.tally.count_edges(*kind, *value, pair);
+            }
+        }
+    }
+
     /// Asks for the pair of a vector, and what the page is with it.
     fn choose(
         &mut self,
@@ -284,6 +356,18 @@ impl<'a> Comparison<'a> {
     /// Puts a request into the batch.
     fn put(&mut self, origin: &str, request: Request) -> Result<(), String> {
         self.put_case(Case::of(origin, request))
+    }
+
+    /// Puts a request whose answer and output are known before.
+    fn put_wanted(
+        &mut self,
+        origin: &str,
+        request: Request,
+        outcome: Outcome,
+        output: Vec<u8>,
+    ) -> Result<(), String> {
+        let wanted = Some(Reply { answer: answer_of(outcome), output });
+        self.put_case(Case { wanted, ..Case::of(origin, request) })
     }
 
     fn put_case(&mut self, case: Case) -> Result<(), String> {
@@ -348,6 +432,10 @@ impl<'a> Comparison<'a> {
                 let got = numbers(reply.answer);
                 self.report(&format!("{}: {got}, place not {place:?}", case.origin));
             }
+        }
+        if let Some(wanted) = case.wanted.as_ref().filter(|wanted| **wanted != own.1) {
+            let (said, wanted) = (numbers(own.1.answer), numbers(wanted.answer));
+            self.report(&format!("{}: {said}, and not {wanted} as foretold", case.origin));
         }
         match other {
             None => Err(format!("the program ended before its answer to {}", case.origin)),

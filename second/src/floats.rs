@@ -1,9 +1,11 @@
 //! The two kinds of floats, and the way from a value to a whole number and
-//! back (document 01, "From a value to a whole number").
+//! back (document 01, "From a value to a whole number", with the fast rounding
+//! of document 02's T-05).
 //!
 //! Values travel as bit patterns in a `u64` (the low 32 bits for the 32-bit
 //! kind), whole numbers as `i64`. The arithmetic is Rust's own on `f32` and
-//! `f64`: one IEEE multiplication, rounded once to nearest, ties to even.
+//! `f64`: one IEEE multiplication, addition or subtraction, rounded once to
+//! nearest, ties to even.
 
 #[derive(Clone, Copy, PartialEq, Eq, Debug)]
 pub enum Kind {
@@ -20,6 +22,10 @@ pub struct Pair {
     pub exponent: usize,
     pub factor: usize,
 }
+
+/// A way from a value to its whole number, for a kind, an exponent and a
+/// factor; nothing if the value is an exception.
+pub type Turn = fn(Kind, u64, usize, usize) -> Option<i64>;
 
 /// 10^0 to 10^E, exact in their kind.
 pub const TENS_32: [f32; 11] = [1e0, 1e1, 1e2, 1e3, 1e4, 1e5, 1e6, 1e7, 1e8, 1e9, 1e10];
@@ -39,6 +45,11 @@ pub const TENTHS_64: [f64; 19] = [
 /// L, the largest scaled magnitude: 2^31 - 128 and 2^63 - 1,024.
 pub const LARGEST_32: f32 = 2_147_483_520.0;
 pub const LARGEST_64: f64 = 9_223_372_036_854_774_784.0;
+
+/// What the fast rounding adds and takes away again (004, section 4.3):
+/// 2^22 + 2^23 and 2^51 + 2^52.
+pub const ROUNDER_32: f32 = 12_582_912.0;
+pub const ROUNDER_64: f64 = 6_755_399_441_055_744.0;
 
 const NEGATIVE_ZERO_32: u32 = 0x8000_0000;
 const NEGATIVE_ZERO_64: u64 = 0x8000_0000_0000_0000;
@@ -62,6 +73,30 @@ impl Kind {
         match self {
             Kind::Single => 10,
             Kind::Double => 18,
+        }
+    }
+
+    /// L; a 32-bit float is exact as a 64-bit one.
+    pub fn largest(self) -> f64 {
+        match self {
+            Kind::Single => LARGEST_32.into(),
+            Kind::Double => LARGEST_64,
+        }
+    }
+
+    /// The constant of the fast rounding.
+    pub fn rounder(self) -> f64 {
+        match self {
+            Kind::Single => ROUNDER_32.into(),
+            Kind::Double => ROUNDER_64,
+        }
+    }
+
+    /// The scaled value of a value.
+    pub fn scaled(self, value: u64, exponent: usize, factor: usize) -> f64 {
+        match self {
+            Kind::Single => scaled_32(f32::from_bits(value as u32), exponent, factor).into(),
+            Kind::Double => scaled_64(f64::from_bits(value), exponent, factor),
         }
     }
 
@@ -109,18 +144,35 @@ impl Kind {
     }
 }
 
+/// The scaled value, 32-bit: two products, each rounded once.
+fn scaled_32(value: f32, exponent: usize, factor: usize) -> f32 {
+    let scaled = value * TENS_32[exponent];
+    scaled * TENTHS_32[factor]
+}
+
+/// The fast rounding, 32-bit: a sum and a difference, each rounded once in the
+/// kind. Nothing else makes the number whole: a half may be left.
+fn fast_32(scaled: f32) -> f32 {
+    let sum = scaled + ROUNDER_32;
+    sum - ROUNDER_32
+}
+
 /// The exception rule and the whole number, 32-bit.
 fn whole_32(bits: u32, exponent: usize, factor: usize) -> Option<i32> {
     let value = f32::from_bits(bits);
     if value.is_nan() || value.is_infinite() || bits == NEGATIVE_ZERO_32 {
         return None;
     }
-    let scaled = value * TENS_32[exponent];
-    let scaled = scaled * TENTHS_32[factor];
+    let scaled = scaled_32(value, exponent, factor);
     if scaled.is_infinite() || scaled.abs() > LARGEST_32 {
         return None;
     }
-    let whole = scaled.round_ties_even() as i32;
+    let rounded = fast_32(scaled);
+    if rounded.abs() > LARGEST_32 {
+        return None;
+    }
+    // `as` drops the fraction, if one is left.
+    let whole = rounded as i32;
     // The bits are compared, not the floats: negative zero equals zero.
     if back_32(whole, exponent, factor) != bits {
         return None;
@@ -135,18 +187,33 @@ fn back_32(whole: i32, exponent: usize, factor: usize) -> u32 {
     value.to_bits()
 }
 
+/// The scaled value, 64-bit.
+fn scaled_64(value: f64, exponent: usize, factor: usize) -> f64 {
+    let scaled = value * TENS_64[exponent];
+    scaled * TENTHS_64[factor]
+}
+
+/// The fast rounding, 64-bit.
+fn fast_64(scaled: f64) -> f64 {
+    let sum = scaled + ROUNDER_64;
+    sum - ROUNDER_64
+}
+
 /// The exception rule and the whole number, 64-bit.
 fn whole_64(bits: u64, exponent: usize, factor: usize) -> Option<i64> {
     let value = f64::from_bits(bits);
     if value.is_nan() || value.is_infinite() || bits == NEGATIVE_ZERO_64 {
         return None;
     }
-    let scaled = value * TENS_64[exponent];
-    let scaled = scaled * TENTHS_64[factor];
+    let scaled = scaled_64(value, exponent, factor);
     if scaled.is_infinite() || scaled.abs() > LARGEST_64 {
         return None;
     }
-    let whole = scaled.round_ties_even() as i64;
+    let rounded = fast_64(scaled);
+    if rounded.abs() > LARGEST_64 {
+        return None;
+    }
+    let whole = rounded as i64;
     if back_64(whole, exponent, factor) != bits {
         return None;
     }
@@ -212,7 +279,7 @@ mod tests {
     #[test]
     fn values_at_an_edge() {
         assert_eq!(Kind::Single.whole(0x43F0_F756, 5, 1), None);
-        assert_eq!(Kind::Single.whole(0x49B5_237D, 2, 1), Some(14_838_877));
+        assert_eq!(Kind::Single.whole(0x49B5_237D, 2, 1), Some(14_838_876));
         assert_eq!(Kind::Double.whole(0x40A2_ACAD_871D_05B0, 13, 1), None);
     }
 
@@ -224,15 +291,113 @@ mod tests {
         assert_eq!(single(0x7F80_0000), None, "infinite");
         assert_eq!(single(0x8000_0000), None, "negative zero");
         assert_eq!(single(0x0000_0000), Some(0), "zero");
-        assert_eq!(single(0x4EFF_FFFF), Some(2_147_483_520), "L");
+        assert_eq!(single(0x4EFF_FFFF), None, "L, which rounds to 2^31");
         assert_eq!(single(0xCEFF_FFFF), Some(-2_147_483_520), "-L");
         assert_eq!(single(0x4F00_0000), None, "2^31");
         assert_eq!(single(0xCF00_0000), None, "-2^31");
         let double = |bits| Kind::Double.whole(bits, 0, 0);
-        assert_eq!(double(0x43DF_FFFF_FFFF_FFFF), Some(i64::MAX - 1023), "L");
+        assert_eq!(double(0x43DF_FFFF_FFFF_FFFF), None, "L, which rounds to 2^63");
         assert_eq!(double(0xC3DF_FFFF_FFFF_FFFF), Some(-i64::MAX + 1023), "-L");
         assert_eq!(double(0x43E0_0000_0000_0000), None, "2^63");
         assert_eq!(double(0xC3E0_0000_0000_0000), None, "-2^63");
+    }
+
+    #[test]
+    fn rounders() {
+        assert_eq!(ROUNDER_32 as i64, (1 << 22) + (1 << 23));
+        assert_eq!(ROUNDER_64 as i64, (1 << 51) + (1 << 52));
+    }
+
+    /// The whole number of a value whose scaled value it is itself.
+    fn single(value: f32) -> Option<i64> {
+        Kind::Single.whole(value.to_bits().into(), 0, 0)
+    }
+
+    fn double(value: f64) -> Option<i64> {
+        Kind::Double.whole(value.to_bits(), 0, 0)
+    }
+
+    #[test]
+    fn the_sum_rounds_to_even_above_2_to_22() {
+        let fast = |scaled| fast_32(scaled) as i64;
+        assert_eq!([4_194_303.0, 4_194_304.0].map(fast), [4_194_303, 4_194_304]);
+        assert_eq!([4_194_304.5, 4_194_305.0].map(fast), [4_194_304, 4_194_304], "down");
+        assert_eq!([4_194_306.0, 4_194_307.0].map(fast), [4_194_306, 4_194_308], "up");
+        assert_eq!([8_388_607.0, 8_388_608.0].map(fast), [8_388_608, 8_388_608], "at 2^23");
+        assert_eq!([8_388_609.0, 8_388_611.0].map(fast), [8_388_608, 8_388_612], "above 2^23");
+        assert_eq!(single(4_194_305.0), None);
+        assert_eq!(single(4_194_306.0), Some(4_194_306));
+        assert_eq!(single(8_388_607.0), None);
+        assert_eq!(single(8_388_608.0), Some(8_388_608));
+        assert_eq!(single(8_388_609.0), None);
+        assert_eq!(single(16_777_214.0), Some(16_777_214), "2^24 - 2");
+        assert_eq!(single(33_554_428.0), Some(33_554_428), "2^25 - 4");
+        assert_eq!(single(33_554_430.0), None, "2^25 - 2");
+    }
+
+    #[test]
+    fn the_sum_rounds_to_even_above_2_to_51() {
+        let (low, high) = (2_251_799_813_685_248, 4_503_599_627_370_496);
+        let fast = |scaled| fast_64(scaled) as i64 - low;
+        assert_eq!([2_251_799_813_685_247.5, 2_251_799_813_685_248.0].map(fast), [0, 0]);
+        assert_eq!([2_251_799_813_685_248.5, 2_251_799_813_685_249.0].map(fast), [0, 0]);
+        assert_eq!([2_251_799_813_685_250.0, 2_251_799_813_685_251.0].map(fast), [2, 4]);
+        assert_eq!(double(2_251_799_813_685_247.0), Some(low - 1));
+        assert_eq!(double(2_251_799_813_685_249.0), None);
+        assert_eq!(double(4_503_599_627_370_495.0), None, "2^52 - 1");
+        assert_eq!(double(4_503_599_627_370_496.0), Some(high));
+        assert_eq!(double(4_503_599_627_370_497.0), None, "2^52 + 1");
+    }
+
+    #[test]
+    fn below_zero_a_half_may_be_left_and_is_dropped() {
+        assert_eq!(fast_32(-4_194_303.5), -4_194_304.0, "to even, up to -2^22");
+        assert_eq!(fast_32(-4_194_305.5), -4_194_305.5);
+        assert_eq!(fast_32(-8_388_607.5), -8_388_607.5);
+        assert_eq!(fast_64(-2_251_799_813_685_247.5), -2_251_799_813_685_248.0);
+        assert_eq!(fast_64(-2_251_799_813_685_249.5), -2_251_799_813_685_249.5);
+        // -524,288.94 and -303,235,023,958,211.94, times ten: a half is dropped
+        // toward zero. The nearest even number does not come back.
+        assert_eq!(Kind::Single.whole(0xC900_000F, 1, 0), Some(-5_242_889));
+        assert_eq!(Kind::Double.whole(0xC2F1_3CA6_7E2F_0C3F, 1, 0), Some(-3_032_350_239_582_119));
+        for value in [-4_194_303.0, -4_194_305.0, -8_388_607.0, -8_388_609.0, -16_777_215.0] {
+            assert_eq!(single(value), Some(value as i64));
+        }
+        for value in [-2_251_799_813_685_249.0, -4_503_599_627_370_495.0, -4_503_599_627_370_497.0]
+        {
+            assert_eq!(double(value), Some(value as i64));
+        }
+    }
+
+    #[test]
+    fn a_rounded_magnitude_above_the_largest_is_an_exception() {
+        assert_eq!(
+            (fast_32(LARGEST_32), fast_64(LARGEST_64)),
+            (f32::powi(2.0, 31), f64::powi(2.0, 63))
+        );
+        // A conversion that stops at the largest number of the kind would let
+        // these come back.
+        for (kind, value, exponent, factor) in
+            [(Kind::Single, 0x4D4C_CCCC, 2, 1), (Kind::Double, 0x43A9_9999_9999_9999, 6, 5)]
+        {
+            assert_eq!(kind.scaled(value, exponent, factor), kind.largest());
+            let most = i64::MAX >> (64 - kind.bits());
+            assert_eq!(kind.back(most, exponent, factor), value);
+            assert_eq!(kind.whole(value, exponent, factor), None);
+        }
+    }
+
+    #[test]
+    fn values_that_come_back_from_a_number_that_is_not_nearest() {
+        // 1,048,576.9, 83,886.234, 828,597,786,013,746.5, 867,930,790,695,762.9
+        assert_eq!(Kind::Single.scaled(0x4980_0007, 1, 0), 10_485_769.0);
+        assert_eq!(Kind::Single.whole(0x4980_0007, 1, 0), Some(10_485_768));
+        assert_eq!(Kind::Single.scaled(0x47A3_D71E, 2, 0), 8_388_623.0);
+        assert_eq!(Kind::Single.whole(0x47A3_D71E, 2, 0), Some(8_388_624));
+        assert_eq!(Kind::Double.scaled(0x4307_8CD7_A593_8194, 1, 0), 8_285_977_860_137_465.0);
+        assert_eq!(Kind::Double.whole(0x4307_8CD7_A593_8194, 1, 0), Some(8_285_977_860_137_464));
+        assert_eq!(Kind::Double.scaled(0x4308_AB07_13C0_9A97, 1, 0), 8_679_307_906_957_629.0);
+        assert_eq!(Kind::Double.whole(0x4308_AB07_13C0_9A97, 1, 0), Some(8_679_307_906_957_628));
     }
 
     #[test]

@@ -381,6 +381,10 @@ const FORGERIES: &[(&str, Forge)] = &[
         let whole = too_large(draft.kind, random);
         put_unlisted(draft, random, whole);
     }),
+    ("a whole number that the sum rounds away", |draft, random| {
+        let whole = rounded_away(draft.kind, random);
+        put_unlisted(draft, random, whole);
+    }),
     ("any whole number", |draft, random| {
         let whole = draft.kind.plus(0, random.of_bits(64));
         put_unlisted(draft, random, whole);
@@ -522,6 +526,13 @@ fn too_precise(kind: Kind, random: &mut Random) -> i64 {
     } else {
         whole
     }
+}
+
+/// An odd whole number above 2^22 or 2^51, which a float of the kind holds and
+/// the fast rounding does not give.
+fn rounded_away(kind: Kind, random: &mut Random) -> i64 {
+    let power = if kind == Kind::Single { 22 } else { 51 };
+    (1i64 << power) + 1 + 2 * random.of_bits(power - 1) as i64
 }
 
 /// A whole number whose float lies above L.

@@ -1,7 +1,8 @@
 //! An independent second program for ALP pages, written from document 01
 //! (the specification of the build) and source document 004 alone; and, for
-//! `read_vector`, the sizes in `write` and `choose`, from T-01, T-03 and T-04
-//! of document 02 (the changes requested).
+//! `read_vector`, the sizes in `write`, `choose` and the fast rounding in
+//! `floats`, from T-01, T-03, T-04 and T-05 of document 02 (the changes
+//! requested).
 //!
 //! It is meant to be read next to document 01: every rule stands in one place
 //! and nothing is optimised. The parts:
@@ -12,10 +13,11 @@
 //! - `write`, `read`, `examine`, `read_vector`, `choose`: the calls;
 //! - `frames`: requests and answers as bytes, and the serving side;
 //! - `driver`: runs another program and talks to it in frames;
-//! - `random`, `columns`, `rooms`, `forge`, `widths`, `ask`, `choices`: what
-//!   the programs are compared on;
-//! - `tally`: which refusals, widths, rooms and choices were met, and which are
-//!   missing;
+//! - `random`, `columns`, `rooms`, `forge`, `widths`, `ask`, `choices`, `older`:
+//!   what the programs are compared on;
+//! - `edges`: which mistakes in the way to a whole number a value would show;
+//! - `tally`: which refusals, widths, rooms, choices, edges and older pages were
+//!   met, and which are missing;
 //! - `compare`: the comparison itself.
 
 pub mod answer;
@@ -25,11 +27,13 @@ pub mod choose;
 pub mod columns;
 pub mod compare;
 pub mod driver;
+pub mod edges;
 pub mod examine;
 pub mod floats;
 pub mod forge;
 pub mod frames;
 pub mod layout;
+pub mod older;
 pub mod random;
 pub mod read;
 pub mod read_vector;

@@ -1,11 +1,13 @@
 //! Counts which answers were given by which call, at which widths, in which
-//! rooms and for which choices, and says what was never met.
+//! rooms, for which choices, edges and older pages, and says what was never met.
 
 use std::fmt::Write;
 
 use crate::answer::{Call, Outcome, CALLS, TABLE};
 use crate::choices::{Sight, SIGHTS};
-use crate::floats::{Kind, KINDS};
+use crate::edges::{self, EDGES};
+use crate::floats::{Kind, Pair, KINDS};
+use crate::older::{Fate, FATES};
 use crate::rooms::{Room, Shape, ROOMS, SHAPES};
 
 /// Counts of one line of the table, by call and kind.
@@ -27,6 +29,14 @@ pub struct Tally {
     rooms: [[[u64; KINDS.len()]; SHAPES.len()]; ROOMS.len()],
     /// How many vectors to choose for showed what.
     sights: [[u64; KINDS.len()]; SIGHTS.len()],
+    /// How many values written showed which mistake in the fast rounding.
+    edges: [[u64; KINDS.len()]; EDGES.len()],
+    /// How many of them it doesn't bring to the nearest whole number, by the
+    /// power of two below their scaled value.
+    powers: [[u64; WIDTHS]; KINDS.len()],
+    /// What became of older pages, and of how many by a later vector.
+    fates: [[u64; KINDS.len()]; FATES.len()],
+    later_fates: [u64; FATES.len()],
 }
 
 /// The widths of the larger kind: 0 to 64.
@@ -38,7 +48,10 @@ impl Default for Tally {
         let (spared, widths) = ([0; KINDS.len()], [[0; WIDTHS]; KINDS.len()]);
         let rooms = [[[0; KINDS.len()]; SHAPES.len()]; ROOMS.len()];
         let sights = [[0; KINDS.len()]; SIGHTS.len()];
-        Tally { done: Counts::default(), refused, spared, widths, rooms, sights }
+        let (edges, powers) = ([[0; KINDS.len()]; EDGES.len()], [[0; WIDTHS]; KINDS.len()]);
+        let (fates, later_fates) = ([[0; KINDS.len()]; FATES.len()], [0; FATES.len()]);
+        let done = Counts::default();
+        Tally { done, refused, spared, widths, rooms, sights, edges, powers, fates, later_fates }
     }
 }
 
@@ -70,6 +83,58 @@ impl Tally {
         for sight in sights {
             self.sights[*sight as usize][kind as usize] += 1;
         }
+    }
+
+    pub fn count_edges(&mut self, kind: Kind, value: u64, pair: Pair) {
+        for edge in edges::shown(kind, value, pair) {
+            self.edges[edge as usize][kind as usize] += 1;
+        }
+        if let Some(power) = edges::power_moved(kind, value, pair) {
+            self.powers[kind as usize][power] += 1;
+        }
+    }
+
+    pub fn count_fate(&mut self, kind: Kind, fate: Fate, vector: usize) {
+        self.fates[fate as usize][kind as usize] += 1;
+        if vector > 0 {
+            self.later_fates[fate as usize] += 1;
+        }
+    }
+
+    /// Every mistake in the fast rounding that no value would have shown, and
+    /// every power of two above which no value was moved.
+    fn missing_edges(&self) -> Vec<String> {
+        let mut missing = Vec::new();
+        for kind in KINDS {
+            let bits = kind.bits();
+            for edge in EDGES {
+                if self.edges[edge as usize][kind as usize] == 0 {
+                    missing.push(format!("an edge: {}, {bits}-bit", edge.text()));
+                }
+            }
+            for power in edges::powers(kind) {
+                if self.powers[kind as usize][power] == 0 {
+                    missing.push(format!("a value moved above 2^{power}, {bits}-bit"));
+                }
+            }
+        }
+        missing
+    }
+
+    /// Every fate that no older page had, or none by a later vector.
+    fn missing_fates(&self) -> Vec<String> {
+        let mut missing = Vec::new();
+        for fate in FATES {
+            for kind in KINDS {
+                if self.fates[fate as usize][kind as usize] == 0 {
+                    missing.push(format!("an older page: {}, {}-bit", fate.text(), kind.bits()));
+                }
+            }
+            if fate != Fate::Kept && self.later_fates[fate as usize] == 0 {
+                missing.push(format!("an older page: {} in a later vector", fate.text()));
+            }
+        }
+        missing
     }
 
     /// Everything that no vector to choose for has shown.
@@ -112,6 +177,8 @@ impl Tally {
     pub fn missing(&self) -> Vec<String> {
         let mut missing = self.missing_rooms();
         missing.extend(self.missing_sights());
+        missing.extend(self.missing_edges());
+        missing.extend(self.missing_fates());
         for kind in KINDS.into_iter().filter(|kind| self.spared[*kind as usize] == 0) {
             missing.push(format!("a vector of a page that read refuses, {}-bit", kind.bits()));
         }
@@ -164,6 +231,40 @@ impl Tally {
         }
         text.push_str(&self.table_of_rooms());
         text.push_str(&self.table_of_sights());
+        text.push_str(&self.table_of_edges());
+        text.push_str(&self.table_of_fates());
+        text
+    }
+
+    /// What the values written showed of the fast rounding.
+    fn table_of_edges(&self) -> String {
+        let mut text = String::from("\nvalues written, 32 and 64 bits\n");
+        for edge in EDGES {
+            let [single, double] = self.edges[edge as usize];
+            let _ = writeln!(text, "{:<36}{single:>8}{double:>8}", edge.text());
+        }
+        for kind in KINDS {
+            let powers = edges::powers(kind);
+            let (from, to, bits) = (powers.start(), powers.end() + 1, kind.bits());
+            let least = powers.clone().map(|power| self.powers[kind as usize][power]).min();
+            let least = least.unwrap_or(0);
+            let _ = writeln!(
+                text,
+                "moved from 2^{from} to 2^{to}, {bits}-bit: {least} or more between two powers"
+            );
+        }
+        text
+    }
+
+    /// What became of the older pages.
+    fn table_of_fates(&self) -> String {
+        let mut text = String::from("\nolder pages, 32 and 64 bits; later vectors\n");
+        for fate in FATES {
+            let ([single, double], later) =
+                (self.fates[fate as usize], self.later_fates[fate as usize]);
+            let later = if fate == Fate::Kept { "-".into() } else { later.to_string() };
+            let _ = writeln!(text, "{:<36}{single:>8}{double:>8}{later:>8}", fate.text());
+        }
         text
     }
 

@@ -3,7 +3,7 @@
 //! (document 02's T-03).
 
 use crate::answer::{refuse, refuse_in, Fault, Outcome, Refusal};
-use crate::floats::Kind;
+use crate::floats::{Kind, Turn};
 use crate::layout::{self, push_number};
 
 /// The settings' rows, then the page's exact size as the count.
@@ -41,16 +41,22 @@ fn vector_sizes(kind: Kind, s: u8, values: &[u64], pairs: &[u8]) -> usize {
 
 /// Bytes of one vector, from its values and not from what is written.
 fn vector_size(kind: Kind, values: &[u64], exponent: u8, factor: u8) -> usize {
-    let (width, exceptions) = cost(kind, values, exponent.into(), factor.into());
+    let (width, exceptions) = cost(Kind::whole, kind, values, exponent.into(), factor.into());
     layout::vector_bytes(kind, values.len(), width, exceptions)
 }
 
 /// The width of a vector's fields and the count of its exceptions. A stand-in
 /// is the whole number of another value, so it makes no field wider; and of
 /// exceptions alone all fields are 0.
-pub fn cost(kind: Kind, values: &[u64], exponent: usize, factor: usize) -> (usize, usize) {
+pub fn cost(
+    turn: Turn,
+    kind: Kind,
+    values: &[u64],
+    exponent: usize,
+    factor: usize,
+) -> (usize, usize) {
     let wholes: Vec<i64> =
-        values.iter().filter_map(|value| kind.whole(*value, exponent, factor)).collect();
+        values.iter().filter_map(|value| turn(kind, *value, exponent, factor)).collect();
     let width = match (wholes.iter().min(), wholes.iter().max()) {
         (Some(least), Some(most)) => {
             layout::width_of((i128::from(*most) - i128::from(*least)) as u64)
@@ -77,19 +83,19 @@ pub fn write(kind: Kind, s: u8, values: &[u64], pairs: &[u8], output: &mut [u8])
     if output.len() < size {
         return refuse(Fault::OutputTooShort);
     }
-    let page = page(kind, s, values, pairs);
+    let page = page(Kind::whole, kind, s, values, pairs);
     // The size was summed up before; the bytes now have to say the same.
     assert_eq!(page.len(), size, "the page has another length than was measured");
     output[..page.len()].copy_from_slice(&page);
     Ok(page.len())
 }
 
-/// The page of sound settings.
-fn page(kind: Kind, s: u8, values: &[u64], pairs: &[u8]) -> Vec<u8> {
+/// The page of sound settings, its whole numbers by a turn.
+pub fn page(turn: Turn, kind: Kind, s: u8, values: &[u64], pairs: &[u8]) -> Vec<u8> {
     let parts: Vec<Vec<u8>> = values
         .chunks(1 << s)
         .zip(pairs.chunks_exact(2))
-        .map(|(values, pair)| vector(kind, values, pair[0], pair[1]))
+        .map(|(values, pair)| vector(turn, kind, values, pair[0], pair[1]))
         .collect();
 
     let mut page = vec![1, 0, 0, s];
@@ -104,9 +110,9 @@ fn page(kind: Kind, s: u8, values: &[u64], pairs: &[u8]) -> Vec<u8> {
 }
 
 /// The bytes of one vector.
-fn vector(kind: Kind, values: &[u64], exponent: u8, factor: u8) -> Vec<u8> {
+fn vector(turn: Turn, kind: Kind, values: &[u64], exponent: u8, factor: u8) -> Vec<u8> {
     let wholes: Vec<Option<i64>> =
-        values.iter().map(|value| kind.whole(*value, exponent.into(), factor.into())).collect();
+        values.iter().map(|value| turn(kind, *value, exponent.into(), factor.into())).collect();
     let stand_in = wholes.iter().flatten().next().copied().unwrap_or(0);
     let filled: Vec<i64> = wholes.iter().map(|whole| whole.unwrap_or(stand_in)).collect();
     let (frame, fields, width) = fit(&filled);

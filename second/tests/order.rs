@@ -3,7 +3,7 @@
 
 use second::answer::{answer_of, Answer, Outcome};
 use second::examine::examine;
-use second::floats::{Kind, LARGEST_32, LARGEST_64};
+use second::floats::Kind;
 use second::read::read;
 use second::read_vector::read_vector;
 use second::write::{measure, write};
@@ -62,13 +62,13 @@ fn writer_wants_the_page_to_the_byte() {
 
 #[test]
 fn the_bound_is_not_reached() {
-    // Six exceptions beside two numbers as far apart as there are: each number
-    // costs a whole word, and only the two aren't listed.
-    for (kind, metadata, word, largest) in
-        [(Kind::Single, 9, 4, f64::from(LARGEST_32)), (Kind::Double, 13, 8, LARGEST_64)]
+    // Six exceptions beside two numbers so far apart that each costs a whole
+    // word, and only the two aren't listed. L itself would be, by T-05.
+    for (kind, metadata, word, high) in
+        [(Kind::Single, 9, 4, f64::powi(2.0, 30)), (Kind::Double, 13, 8, f64::powi(2.0, 62))]
     {
         let mut values = vec![kind.nearest(f64::INFINITY); 8];
-        (values[2], values[5]) = (kind.nearest(largest), kind.nearest(-largest));
+        (values[2], values[5]) = (kind.nearest(high), kind.nearest(-kind.largest()));
         let bound = 8 + 4 + metadata + 8 * (2 * word + 2);
         check_size(kind, &values, bound - 2 * (2 + word), bound);
     }

@@ -1,4 +1,5 @@
-//! Document 01's recordings R1 to R17, with all their bytes and answers.
+//! Document 01's recordings R1 to R17, with all their bytes and answers; R8 and
+//! R9 as document 02's T-05 has them.
 
 use second::answer::{answer_of, Answer, Outcome};
 use second::examine::examine;
@@ -121,17 +122,23 @@ fn r7_double() {
 
 #[test]
 fn r8_above_2_to_22() {
-    let page = "01 00 00 0A 01 00 00 00 / 04 00 00 00 / 00 00 00 00 / 01 00 40 00 00";
+    let page = "01 00 00 0A 01 00 00 00 / 04 00 00 00 / 00 00 01 00 / 00 00 00 00 00 / \
+                00 00 / 02 00 80 4A";
     check_page(Kind::Single, &singles(&[4_194_305.0]), [0, 0], page);
+    // The page of before T-05: frame 4,194,305, which now becomes another.
+    let page = bytes("01 00 00 0A 01 00 00 00 / 04 00 00 00 / 00 00 00 00 / 01 00 40 00 00");
+    check_read(Kind::Single, &page, &singles(&[4_194_305.0]));
+    assert_eq!(numbers(examine(Kind::Single, &page)), (21, 0, 0));
 }
 
 #[test]
 fn r9_around_the_largest() {
-    let page = "01 00 00 0A 01 00 00 00 / 04 00 00 00 / 00 00 00 00 / 80 FF FF 7F 00";
-    check_page(Kind::Single, &singles(&[2_147_483_520.0]), [0, 0], page);
-    let page = "01 00 00 0A 01 00 00 00 / 04 00 00 00 / 00 00 01 00 / 00 00 00 00 00 / \
-                00 00 / 00 00 00 4F";
-    check_page(Kind::Single, &singles(&[2_147_483_648.0]), [0, 0], page);
+    let page = "01 00 00 0A 01 00 00 00 / 04 00 00 00 / 00 00 00 00 / 80 00 00 80 00";
+    check_page(Kind::Single, &singles(&[-2_147_483_520.0]), [0, 0], page);
+    for (value, bits) in [(2_147_483_520.0, "FF FF FF 4E"), (2_147_483_648.0, "00 00 00 4F")] {
+        let page = "01 00 00 0A 01 00 00 00 / 04 00 00 00 / 00 00 01 00 / 00 00 00 00 00 / 00 00";
+        check_page(Kind::Single, &singles(&[value]), [0, 0], &format!("{page} / {bits}"));
+    }
 }
 
 #[test]
