@@ -31,6 +31,12 @@ static double times(double a, double b)
     return kind == 32 ? (double)(float)(a * b) : a * b;
 }
 
+/* A sum, rounded once in the kind: of two 32-bit floats 64 bits keep so many digits that rounding twice is as rounding once. */
+static double plus(double a, double b)
+{
+    return kind == 32 ? (double)(float)(a + b) : a + b;
+}
+
 static void make_tens(void)
 {
     char text[8];
@@ -53,14 +59,18 @@ static double value_at(size_t place)
     return kind == 32 ? (double)single : value;
 }
 
-/* Whether a value is no exception with a pair, by document 01's rule, and its whole number. */
+/* Whether a value is no exception with a pair, by document 01's rule with the fast rounding of T-05, and its whole number: a large constant is
+   added and taken away again, and the conversion drops a fraction that is left. */
 static int whole(double value, int e, int f, int64_t *number)
 {
     const double largest = kind == 32 ? 2147483520.0 : 9223372036854774784.0;
+    const double constant = kind == 32 ? 12582912.0 : 6755399441055744.0;
     const double scaled = times(times(value, tens[e]), tenths[f]);
+    const double rounded = plus(plus(scaled, constant), -constant);
     double back;
     if (isnan(value) || isinf(value) || (value == 0 && signbit(value)) || !(fabs(scaled) <= largest)) return 0;
-    *number = (int64_t)rint(scaled);
+    if (fabs(rounded) > largest) return 0;
+    *number = (int64_t)rounded;
     back = times(times(kind == 32 ? (double)(float)*number : (double)*number, tens[f]), tenths[e]);
     return memcmp(&back, &value, sizeof back) == 0;
 }

@@ -17,11 +17,11 @@
  *  - the floating-point environment is the plain one (below).
  * The calls keep no state, so several may run at once on several threads.
  *
- * The floating-point environment. The proofs take multiplication as IEEE 754 has it, rounded to nearest, with no trap and no flushing of
- * subnormals: MXCSR is 0x1F80 but for its sticky flags, as at the start of a program. Code that rounds another way (interval pricing),
- * traps exceptions (feenableexcept) or flushes subnormals (a program linked with -ffast-math starts so) sets the plain environment around
- * the calls, with the two helpers at the end of this file. Without them no proof speaks of the calls: upward rounding gives other pages,
- * silently, and a trap ends the program.
+ * The floating-point environment. The proofs take multiplication, addition and subtraction as IEEE 754 has them, rounded to nearest, with no
+ * trap and no flushing of subnormals: MXCSR is 0x1F80 but for its sticky flags, as at the start of a program. Code that rounds another way
+ * (interval pricing), traps exceptions (feenableexcept) or flushes subnormals (a program linked with -ffast-math starts so) sets the plain
+ * environment around the calls, with the two helpers at the end of this file. Without them no proof speaks of the calls: upward rounding
+ * gives other pages, silently, and a trap ends the program.
  */
 #ifndef STRAHNUK_H
 #define STRAHNUK_H
@@ -164,6 +164,7 @@ strahnuk_answer alp_read_vector64(const uint8_t *page, size_t page_length, size_
 /*
  * Examine: whether these bytes are a page that write gives for some values and settings. Done's place: the count of values.
  * Rows in order: as for read without 15; then 20 to 24 of the first vector at fault, in it the lowest row, in that the first position.
+ * Of pages written before the fast rounding of T-05, which all read as ever, some are refused now, by 21 or 22: docs/OLDER-PAGES.md.
  */
 strahnuk_answer alp_examine32(const uint8_t *page, size_t page_length);
 strahnuk_answer alp_examine64(const uint8_t *page, size_t page_length);
@@ -172,8 +173,8 @@ strahnuk_answer alp_examine64(const uint8_t *page, size_t page_length);
  * Choose: the pair that gives one vector of these values the fewest bytes; of several, the first, exponent rising, then factor rising. Done's
  * place: the count of values. Nothing is written. The two bytes go into `pairs` as they are: who chooses for each 2^s values of a column
  * writes its shortest page of that s.
- * Every pair is tried, 66 (32-bit) or 190 (64-bit), and left once it can't be better. Of 64-bit values a full vector takes some 400 instructions
- * a value where all are the same, 2,800 where they are prices, 6,000 where they are random bits; to write prices takes some 150.
+ * Every pair is tried, 66 (32-bit) or 190 (64-bit), and left once it can't be better. Of 64-bit values a full vector takes some 370 instructions
+ * a value where all are the same, 2,600 where they are prices, 6,300 where they are random bits; to write prices takes some 150.
  * Row: 31 if there are no values, or more than 1 << STRAHNUK_LARGEST_S.
  */
 strahnuk_choice alp_choose32(const uint32_t *values, size_t values_length);

@@ -407,8 +407,9 @@ fn exchange_mxcsr(value: u32) -> u32 {
 /// 0.0 to 5.0 by halves, but for a negative zero in the second of two vectors, whose other values are whole.
 const HALVES: [f32; 11] = [0.0, 0.5, 1.0, 1.5, 2.0, 2.5, 3.0, 3.5, 4.0, -0.0, 5.0];
 
-/// R1, R2; negative zero, a NaN with a payload, both infinities, 1.5 and the smallest subnormal, all but 1.5 exceptions; and halves.
-fn singles() -> [Recording<u32>; 4] {
+/// R1, R2; negative zero, a NaN with a payload, both infinities, 1.5 and the smallest subnormal, all but 1.5 exceptions; halves; and R8's
+/// 2^22 + 1, an exception, since the fast rounding ends on even numbers there, with the next even number and its own negative, which are none.
+fn singles() -> [Recording<u32>; 5] {
     [
         Recording {
             name: "R1",
@@ -444,11 +445,19 @@ fn singles() -> [Recording<u32>; 4] {
             page: "01 00 00 03 0B 00 00 00 08 00 00 00 17 00 00 00 01 00 00 00 00 00 00 00 06 40 A1 3C 54 E6 8D \
                    01 00 01 00 28 00 00 00 04 00 0A 01 00 00 00 00 80",
         },
+        Recording {
+            name: "rounding",
+            s: 10,
+            pairs: vec![Pair { exponent: 0, factor: 0 }],
+            chosen: vec![Pair { exponent: 1, factor: 0 }],
+            values: [4_194_305.0_f32, 4_194_306.0, -4_194_305.0].map(f32::to_bits).to_vec(),
+            page: "01 00 00 0A 03 00 00 00 04 00 00 00 00 00 01 00 FF FF BF FF 18 03 00 80 03 00 80 00 00 00 00 00 02 00 80 4A",
+        },
     ]
 }
 
-/// R7, and the same special values and halves in 64 bits.
-fn doubles() -> [Recording<u64>; 3] {
+/// R7, and the same special values and halves in 64 bits, and the rounding from 2^51 on.
+fn doubles() -> [Recording<u64>; 4] {
     [
         Recording {
             name: "R7",
@@ -483,6 +492,15 @@ fn doubles() -> [Recording<u64>; 3] {
             values: HALVES.map(|value| f64::from(value).to_bits()).to_vec(),
             page: "01 00 00 03 0B 00 00 00 08 00 00 00 1B 00 00 00 01 00 00 00 00 00 00 00 00 00 00 00 06 40 A1 3C 54 E6 8D \
                    01 00 01 00 28 00 00 00 00 00 00 00 04 00 0A 01 00 00 00 00 00 00 00 00 80",
+        },
+        Recording {
+            name: "rounding",
+            s: 10,
+            pairs: vec![Pair { exponent: 0, factor: 0 }],
+            chosen: vec![Pair { exponent: 2, factor: 1 }],
+            values: [2_251_799_813_685_249.0_f64, 2_251_799_813_685_250.0, -2_251_799_813_685_249.0].map(f64::to_bits).to_vec(),
+            page: "01 00 00 0A 03 00 00 00 04 00 00 00 00 00 01 00 FF FF FF FF FF FF F7 FF 35 03 00 00 00 00 00 70 00 00 00 00 00 00 02 \
+                   00 00 00 00 00 00 00 00 02 00 00 00 00 00 20 43",
         },
     ]
 }

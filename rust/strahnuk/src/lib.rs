@@ -298,7 +298,8 @@ macro_rules! kind {
         /// of values.
         ///
         #[doc = concat!("Rows in order: those of [`read", $n, "`], then 20 to 24 of the first vector at fault, in it the lowest row,")]
-        /// in that the first position.
+        /// in that the first position. Of pages written before the fast rounding of T-05, which all read as ever, some are refused now,
+        /// by 21 or 22: docs/OLDER-PAGES.md says which.
         ///
         /// ```
         #[doc = concat!("use strahnuk::{examine", $n, ", write", $n, ", Pair, Row};")]

@@ -1,4 +1,4 @@
-//! Document 01's recordings, R1 to R17, through the wrapper.
+//! Document 01's recordings, R1 to R17, through the wrapper; R8 and R9 as T-05 has them.
 mod pages;
 
 use pages::{with, R1, R11, R2, R5, R6};
@@ -66,13 +66,27 @@ fn r7_of_64_bits() {
 
 #[test]
 fn r8_and_r9_large_magnitudes() {
-    for (value, exceptions) in [(4_194_305.0_f32, 0), (2_147_483_520.0, 0), (2_147_483_648.0, 1)] {
+    for (value, exceptions) in [
+        (4_194_305.0_f32, 1),
+        (4_194_306.0, 0),
+        (-4_194_305.0, 0),
+        (2_147_483_520.0, 1),
+        (-2_147_483_520.0, 0),
+        (2_147_483_648.0, 1),
+    ] {
         let page = write32(&bits(&[value]), 10, &pair(0, 0)).unwrap();
         assert_eq!(page[14], exceptions, "{}", value);
-        let frame = if exceptions == 0 { value as u32 } else { 0 };
+        let frame = if exceptions == 0 { value as i32 } else { 0 };
         assert_eq!(page[16..20], frame.to_le_bytes(), "{}", value);
         round(&bits(&[value]), 0, &page);
     }
+}
+
+#[test]
+fn r8_of_before_t_05_reads_but_is_no_page() {
+    let r8 = [1, 0, 0, 10, 1, 0, 0, 0, 4, 0, 0, 0, 0, 0, 0, 0, 1, 0, 0x40, 0, 0];
+    assert_eq!(read32(&r8), Ok(bits(&[4_194_305.0])));
+    assert_eq!(examine32(&r8), Err(Refusal { row: Row::Unlisted, vector: 0, place: 0 }));
 }
 
 #[test]
