@@ -74,12 +74,9 @@ module _ (fmt : Format) (N b : ℕ) (B : 0 < b) (least : 2 ^ (prec fmt - 1) * b 
   dropped : N < 2 ^ prec fmt * b → size (many / b) - prec fmt ≡ low fmt
   dropped h = omega (arith, digits-are (many / b) (prec fmt - 1 + low fmt) (le-div-iff-mul-le B .1 below) (div-lt-iff-lt-mul B .1 above), two fmt)
     where
-      regroup : (x y z : ℕ) → x * y * z ≡ x * z * y
-      regroup x y z = mul-right-comm x y z
-
       below : 2 ^ (prec fmt - 1 + low fmt) * b ≤ many
       below =
-          le-trans (le-of-eq (ap (λ (x : ℕ). x * b) (pow-add 2 (prec fmt - 1) (low fmt)) ∙ regroup (2 ^ (prec fmt - 1)) (2 ^ low fmt) b)) (mul-le-mul-right (2 ^ low fmt) least)
+          le-trans (le-of-eq (ap (λ (x : ℕ). x * b) (pow-add 2 (prec fmt - 1) (low fmt)) ∙ mul-right-comm (2 ^ (prec fmt - 1)) (2 ^ low fmt) b)) (mul-le-mul-right (2 ^ low fmt) least)
 
       next : (p l : ℕ) → 2 ≤ p → p + l ≡ suc (p - 1 + l)
       next p l h = omega arith
@@ -87,7 +84,7 @@ module _ (fmt : Format) (N b : ℕ) (B : 0 < b) (least : 2 ^ (prec fmt - 1) * b 
       above : many < 2 ^ suc (prec fmt - 1 + low fmt) * b
       above =
           lt-of-lt-of-le (mul-lt-mul-of-pos-right h (pow-pos (low fmt)))
-          (le-of-eq (regroup (2 ^ prec fmt) b (2 ^ low fmt) ∙ ap (λ (x : ℕ). x * b) (sym (pow-add 2 (prec fmt) (low fmt)) ∙ ap (λ (x : ℕ). 2 ^ x) (next (prec fmt) (low fmt) (two fmt)))))
+          (le-of-eq (mul-right-comm (2 ^ prec fmt) b (2 ^ low fmt) ∙ ap (λ (x : ℕ). x * b) (sym (pow-add 2 (prec fmt) (low fmt)) ∙ ap (λ (x : ℕ). 2 ^ x) (next (prec fmt) (low fmt) (two fmt)))))
 
   -- so what is kept is the nearest whole number
   kept-is : closest many (b * 2 ^ low fmt) ≡ closest N b
@@ -144,37 +141,36 @@ numbers binary64 = record { half = refl; all = refl; even = refl; under = lit≤
 taken : (a b c : ℕ) → a * c - b * c ≡ (a - b) * c
 taken a b c = ap₂ (λ (x y : ℕ). x - y) (mul-comm a c) (mul-comm b c) ∙ sym (mul-sub c a b) ∙ mul-comm c (a - b)
 
-module _ (fmt : Format) (K : ℕ) (k : ℕ) (is : K ≡ 3 * 2 ^ k) where
-  -- the two numerators over the denominator d
-  over : (m q : ℕ) (e : ℤ) → m * up e * 1 ≡ q * down e → (m * up e * 1 ≡ q * down e) × (3 * 2 ^ k * down e ≡ K * down e)
-  over m q e v = (v, ap (λ (x : ℕ). x * down e) (sym is))
+module _ (fmt : Format) (k : ℕ) where
+  abbrev constant : ℕ
+  constant = 3 * 2 ^ k
 
-  pub less-constant : (x : Float) (q : ℕ) → HasValue x false q 1 → q < K → sub fmt x (fin false 3 (pos k)) ≡ round fmt true (K - q) 1
+  less-constant : (x : Float) (q : ℕ) → HasValue x false q 1 → q < constant → sub fmt x (fin false 3 (pos k)) ≡ round fmt true (constant - q) 1
   unfolding sub neg add sum
   less-constant (fin true m e) q (s, v) h = absurd (true≢false s)
   less-constant (fin false m e) q (s, v) h =
       let d = down e in
-      let l : q * d < K * d = mul-lt-mul-of-pos-right h (down-pos e) in
-      rw (over m q e v .0, over m q e v .1, lt-ltb (q * d) (K * d) l, mul-one d) (round-same fmt true (K * d - q * d) d (K - q) 1 (down-pos e) (lit< tt) (mul-one (K * d - q * d) ∙ taken K q d))
+      let l : q * d < constant * d = mul-lt-mul-of-pos-right h (down-pos e) in
+      rw (v, lt-ltb (q * d) (constant * d) l, mul-one d) (round-same fmt true (constant * d - q * d) d (constant - q) 1 (down-pos e) (lit< tt) (mul-one (constant * d - q * d) ∙ taken constant q d))
 
-  pub more-constant : (x : Float) (q : ℕ) → HasValue x false q 1 → K ≤ q → sub fmt x (fin false 3 (pos k)) ≡ round fmt false (q - K) 1
+  more-constant : (x : Float) (q : ℕ) → HasValue x false q 1 → constant ≤ q → sub fmt x (fin false 3 (pos k)) ≡ round fmt false (q - constant) 1
   unfolding sub neg add sum
   more-constant (fin true m e) q (s, v) h = absurd (true≢false s)
   more-constant (fin false m e) q (s, v) h =
       let d = down e in
-      let l : K * d ≤ q * d = mul-le-mul-right d h in
-      rw (over m q e v .0, over m q e v .1, le-ltb (q * d) (K * d) l, mul-one d) (round-same fmt false (q * d - K * d) d (q - K) 1 (down-pos e) (lit< tt) (mul-one (q * d - K * d) ∙ taken q K d))
+      let l : constant * d ≤ q * d = mul-le-mul-right d h in
+      rw (v, le-ltb (q * d) (constant * d) l, mul-one d) (round-same fmt false (q * d - constant * d) d (q - constant) 1 (down-pos e) (lit< tt) (mul-one (q * d - constant * d) ∙ taken q constant d))
 
 -- ---- added to a small value
 
-module _ (fmt : Format) (m : ℕ) (e : ℤ) (K k : ℕ) (is : K ≡ 3 * 2 ^ k) where
-  raised-up : add fmt (fin false m e) (fin false 3 (pos k)) ≡ round fmt false (K * down e + m * up e) (down e)
+module _ (fmt : Format) (m : ℕ) (e : ℤ) (k : ℕ) where
+  raised-up : add fmt (fin false m e) (fin false 3 (pos k)) ≡ round fmt false (3 * 2 ^ k * down e + m * up e) (down e)
   unfolding add sum
-  raised-up = rw (mul-one (m * up e), mul-one (down e), ← is, add-comm (m * up e) (K * down e))
+  raised-up = rw (mul-one (m * up e), mul-one (down e), add-comm (m * up e) (3 * 2 ^ k * down e))
 
-  raised-down : m * up e < K * down e → add fmt (fin true m e) (fin false 3 (pos k)) ≡ round fmt false (K * down e - m * up e) (down e)
+  raised-down : m * up e < 3 * 2 ^ k * down e → add fmt (fin true m e) (fin false 3 (pos k)) ≡ round fmt false (3 * 2 ^ k * down e - m * up e) (down e)
   unfolding add sum
-  raised-down h = rw (mul-one (m * up e), mul-one (down e), ← is, lt-ltb (m * up e) (K * down e) h)
+  raised-down h = rw (mul-one (m * up e), mul-one (down e), lt-ltb (m * up e) (3 * 2 ^ k * down e) h)
 
 -- ---- a value of at most a quarter of 2 ^ prec
 
@@ -223,9 +219,9 @@ module _ (fmt : Format) (m : ℕ) (e : ℤ) (h : m * up e ≤ quarter fmt * down
   left-up =
       let S = add fmt (fin false m e) c in
       let sum-value : HasValue S false (K + n) 1 =
-      subst (λ (x : Float). HasValue x false (K + n) 1) (sym (raised-up fmt m e K (prec fmt - 2) refl))
+      subst (λ (x : Float). HasValue x false (K + n) 1) (sym (raised-up fmt m e (prec fmt - 2)))
       (summed (K * b + a) (K + n) (omega arith) (omega (arith, h)) (nearest-more a b n K (down-pos e) (numbers fmt .even) near)) in
-      let is : sub fmt S c ≡ round fmt false n 1 = more-constant fmt K (prec fmt - 2) refl S (K + n) sum-value (omega arith) ∙ ap (λ (x : ℕ). round fmt false x 1) (omega arith) in
+      let is : sub fmt S c ≡ round fmt false n 1 = more-constant fmt (prec fmt - 2) S (K + n) sum-value (omega arith) ∙ ap (λ (x : ℕ). round fmt false x 1) (omega arith) in
       record { sign = false; value = subst (λ (x : Float). HasValue x false n 1) (sym is) (n-exact false); same = refl; small = n-small }
 
   left-down : Left fmt true n (sub fmt (add fmt (fin true m e) c) c)
@@ -235,17 +231,17 @@ module _ (fmt : Format) (m : ℕ) (e : ℤ) (h : m * up e ≤ quarter fmt * down
       let H-pos : 0 < H = pow-pos (prec fmt - 2) in
       let Hb : 0 < H * b = mul-pos H-pos B in
       let sum-value : HasValue S false (K - n) 1 =
-      subst (λ (x : Float). HasValue x false (K - n) 1) (sym (raised-down fmt m e K (prec fmt - 2) refl (omega (arith, h, Hb))))
+      subst (λ (x : Float). HasValue x false (K - n) 1) (sym (raised-down fmt m e (prec fmt - 2) (omega (arith, h, Hb))))
       (summed (K * b - a) (K - n) (omega (arith, h)) (omega (arith, h)) (nearest-less a b n K B (numbers fmt .even) near (omega (arith, n-small)) (omega (arith, h)))) in
       elim (lt-or-le 0 n) [
         | inl some ↦
             let is : sub fmt S c ≡ round fmt true n 1 =
-            less-constant fmt K (prec fmt - 2) refl S (K - n) sum-value (omega (arith, n-small, some)) ∙ ap (λ (x : ℕ). round fmt true x 1) (omega (arith, n-small)) in
+            less-constant fmt (prec fmt - 2) S (K - n) sum-value (omega (arith, n-small, some)) ∙ ap (λ (x : ℕ). round fmt true x 1) (omega (arith, n-small)) in
             record { sign = true; value = subst (λ (x : Float). HasValue x true n 1) (sym is) (n-exact true); same = refl; small = n-small }
         | inr none ↦
             let zero : n ≡ 0 = omega (arith, none) in
             let is : sub fmt S c ≡ round fmt false n 1 =
-            more-constant fmt K (prec fmt - 2) refl S (K - n) sum-value (omega (arith, zero)) ∙ ap (λ (x : ℕ). round fmt false x 1) (omega (arith, zero)) in
+            more-constant fmt (prec fmt - 2) S (K - n) sum-value (omega (arith, zero)) ∙ ap (λ (x : ℕ). round fmt false x 1) (omega (arith, zero)) in
             record { sign = false; value = subst (λ (x : Float). HasValue x false n 1) (sym is) (n-exact false); same = ap pos zero ∙ sym (ap (λ (x : ℕ). negℤ (pos x)) zero); small = n-small }
       ]
 

@@ -22,11 +22,11 @@ use Rattle.rules.specs.Kind.{word, maxScaled}
 use Rattle.rules.specs.Decimal.{Pair, scaled, rounded, back, isInfinite, isNegativeZero, beyond, exception, tried}
 use Rattle.rules.specs.Floats.{Small}
 use Rattle.rules.specs.Vector.{Raw, standIn, filled, places, picks, rawOf, orElse}
-use Rattle.rules.specs.Page.{vectors, layout, pageOf}
+use Rattle.rules.specs.Page.{layout, pageOf}
 use Rattle.rules.specs.Verdict.{fine, first, verdict, in-vector-at, done, call}
 use Rattle.rules.specs.Read.{readOf}
 use Rattle.rules.specs.Examine.{isOther, strays, needless, allRulesRows, examineRows, examineOf}
-use Rattle.rules.specs.Write.{pairsOf, pairBytes, Inside, writeOf, PageOf}
+use Rattle.rules.specs.Write.{pairBytes, writeOf, PageOf}
 use Rattle.rules.specs.Older.{olderWhole, olderException, olderTried, vectorsBy, OlderPageOf, Unmoved, AllUnmoved, otherNow, wholeNow, valueRows, movedRows}
 use Rattle.rules.proofs.Rows.{row-first, first-fine, first-first, settle-done, or-false}
 use Rattle.rules.proofs.Tries.{Held, max-held, signed-mag, kept-back, tried-is, tried-none}
@@ -170,12 +170,8 @@ module _ (fmt : Format) (bs : List ℕ) (s : ℕ) (ps : List Pair) (vs : List �
   pub older-pages-renewed : (room : ℕ) → length (pageOf fmt s ps vs) ≤ room → (writeOf fmt s (pairBytes ps) vs room ≡ done (pageOf fmt s ps vs)) × (examineOf fmt (pageOf fmt s ps vs) ≡ done vs)
   older-pages-renewed room h =
       let i = older .inside in
-      let same : pairsOf (pairBytes ps) ≡ ps = pairs-back ps in
-      let settled : (qs : List Pair) → qs ≡ ps → (length (pairBytes ps) ≡ 2 * vectors s (length vs)) × Inside fmt s qs (length vs) × (length (pageOf fmt s qs vs) ≤ room) =
-      λ qs e. subst (λ (x : List Pair). (length (pairBytes ps) ≡ 2 * vectors s (length vs)) × Inside fmt s x (length vs) × (length (pageOf fmt s x vs) ≤ room)) (sym e) (length-pairBytes ps ∙ ap (λ (n : ℕ). 2 * n) (i .one-each), i, h) in (
-        writer-done fmt s (pairBytes ps) vs room .1 (settled (pairsOf (pairBytes ps)) same) ∙ ap (λ (x : List Pair). done (pageOf fmt s x vs)) same,
-        page-is-accepted fmt s ps vs i (older .values),
-      )
+      let give = writer-done fmt s (pairBytes ps) vs room .1 in
+      ((rw (pairs-back ps) at give) (length-pairBytes ps ∙ ap (λ (n : ℕ). 2 * n) (i .one-each), i, h), page-is-accepted fmt s ps vs i (older .values))
 
 -- ---- no value moved whose scaled value is small
 
