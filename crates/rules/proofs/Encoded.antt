@@ -127,24 +127,12 @@ module _ (fmt : Format) (p : Pair) (vs : List ℕ) where
   pub length-filled : length (filled (tries fmt p vs)) ≡ length vs
   length-filled = turned-length fmt p (tried fmt p) (tried-some fmt p) vs
 
-  pub encoded-count : encoded fmt p vs .count ≡ length vs
-  unfolding encoded rawOf
-  encoded-count = length-filled
-
   pub encoded-pair : encoded fmt p vs .pair ≡ p
   unfolding encoded rawOf
   encoded-pair = refl
 
   pub fields-below : Each (λ (n : ℕ). n < 2 ^ wordBits fmt) (fieldsOf (filled (tries fmt p vs)))
   fields-below = turned-below fmt p (tried fmt p) (tried-some fmt p) vs
-
-  pub encoded-sound : Allowed fmt p → Sound fmt (encoded fmt p vs)
-  unfolding encoded
-  encoded-sound a = turned-sound fmt p (tried fmt p) (tried-some fmt p) vs a
-
-  pub encoded-fit : length vs ≤ 2 ^ maxS → Values fmt vs → Fit fmt (encoded fmt p vs)
-  unfolding encoded
-  encoded-fit short ok = turned-fit fmt p (tried fmt p) (tried-some fmt p) vs short ok
 
 -- ---- the values, cut into vectors
 
@@ -231,9 +219,6 @@ module _ (fmt : Format) (size : ℕ) (ps : List Pair) (vs : List ℕ) where
 
   pub all-sound : Each (Allowed fmt) ps → Each (Sound fmt) (encodedAll fmt size ps vs)
   all-sound a = subst (Each (Sound fmt)) (all-by fmt size ps vs) (by-sound fmt (tried fmt) (tried-some fmt) size ps vs a)
-
-  pub all-back : Covers size (length vs) ps → join (map (decoded fmt) (encodedAll fmt size ps vs)) ≡ vs
-  all-back c = ap (λ (rs : List Raw). join (map (decoded fmt) rs)) (sym (all-by fmt size ps vs)) ∙ by-back fmt (tried fmt) (tried-some fmt) size ps vs c
 
 -- ---- the size of a page
 

@@ -13,12 +13,12 @@ use Rattle.digits.specs.Lists.{Each}
 use Rattle.digits.specs.Digits.{pack, unpack}
 use Rattle.digits.proofs.Lists.{each-map, each-both, each-below}
 use Rattle.digits.proofs.Pack.{unpack-pack}
-use Rattle.rules.specs.Decimal.{Pair, tried, back}
-use Rattle.rules.specs.Vector.{tries, filled, standIn, orElse, least, fieldsOf, widthOf, places, picks, rawOf, encoded, fields, wholes, marks, marked, decoded}
+use Rattle.rules.specs.Decimal.{Pair, back}
+use Rattle.rules.specs.Vector.{filled, standIn, orElse, least, fieldsOf, widthOf, places, picks, rawOf, fields, wholes, marks, marked, decoded}
 use Rattle.rules.specs.Older.{vectorBy}
 use Rattle.rules.proofs.Fields.{field-back}
 use Rattle.rules.proofs.Order.{AtMost, width-holds, least-below, least-one}
-use Rattle.rules.proofs.Tries.{Held, tried-some}
+use Rattle.rules.proofs.Tries.{Held}
 use Rattle.rules.proofs.Marks.{mark, marks-back}
 
 -- ---- whole numbers, out of frame and fields
@@ -95,11 +95,3 @@ module _ (fmt : Format) (p : Pair) (turn : ℕ → Option ℤ) (comes : ComesBac
       ap (λ (l : List ℤ). zipWith value l (marks (places 0 ts) (picks ts vs) 0 (length zs))) (wholes-back fmt p zs (places 0 ts) (picks ts vs) (turns-filled vs))
       ∙ ap (zipWith value zs) (ap (marks (places 0 ts) (picks ts vs) 0) n ∙ marks-back 0 ts vs (length-map vs turn))
       ∙ zip-back (standIn ts) vs
-
--- by the rule
-pub filled-held : (fmt : Format) (p : Pair) (vs : List ℕ) → Each (Held fmt) (filled (tries fmt p vs))
-filled-held fmt p vs = turns-filled fmt p (tried fmt p) (tried-some fmt p) vs
-
-pub vector-back : (fmt : Format) (p : Pair) (vs : List ℕ) → decoded fmt (encoded fmt p vs) ≡ vs
-unfolding encoded
-vector-back fmt p vs = turned-back fmt p (tried fmt p) (tried-some fmt p) vs
