@@ -4,9 +4,10 @@ use crate::words::eight_from;
 use crate::words::mask_of;
 use crate::words::nine_from;
 ghost use mathlib.Core.Path.{_≡_};
-ghost use Prim.Native.Nat.{_^_, _≤_, _<_};
+ghost use Prim.Native.Nat.{ℕ, _^_, _≤_, _<_};
 ghost use lib.ListN.{length, replicate};
 ghost use Rattle.digits.specs.Digits.{packedSize, unpack};
+ghost use Rattle.bits.specs.Above.{NoneAbove};
 ghost use Rattle.bits.specs.Room.{Room};
 
 // How many of `count` fields, from the first on, have `reach` bytes from their first byte on inside the packed part.
@@ -64,6 +65,24 @@ pub fn nine_each64(packed: &[u8], width: usize, out: &mut [u64])
         start += width;
         i += 1;
     }
+}
+
+// How many of the fields, from the first on, are surely not above `most`: each from 9 bytes, up to the first that is above.
+pub fn nine_below(packed: &[u8], width: usize, ready: usize, most: u64) -> usize
+    requires { ⌜ (width ≤ 64) × (ready < 2 ^ 32) × Room 9 width ready (length (now packed)) ⌝ }
+    ensures { λ r. ⌜ (r ≤ ready) × ((n : ℕ) → ready ≤ n → NoneAbove width n (now (packed .entry)) most r) ⌝ }
+{
+    let mask = mask_of(width);
+    let mut i: usize = 0;
+    let mut start: usize = 0;
+    while i < ready {
+        if most < nine_from(packed, start) & mask {
+            return i;
+        }
+        start += width;
+        i += 1;
+    }
+    i
 }
 
 // Every place becomes 0.

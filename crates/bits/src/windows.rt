@@ -2,6 +2,7 @@
 // whole words of the bytes that are lent, never from beyond them.
 use crate::runs::eight_each32;
 use crate::runs::eight_each64;
+use crate::runs::nine_below;
 use crate::runs::nine_each64;
 use crate::runs::roomy;
 use crate::runs::zeros32;
@@ -14,6 +15,7 @@ ghost use Prim.Native.Nat.{_+_, _*_, _/_, _%_, _^_, _≤_, _<_};
 ghost use lib.ListN.{length, take};
 ghost use lib.Dec.{ltb};
 ghost use Rattle.digits.specs.Digits.{number, packedSize, unpack};
+ghost use Rattle.bits.specs.Above.{firstAbove};
 
 // The `width` bits from bit `start` on, as a number. A window that a word from its first byte on does not hold reaches into a ninth byte.
 pub fn window(bytes: &[u8], start: usize, width: usize) -> u64
@@ -87,6 +89,27 @@ pub fn unpack64(packed: &[u8], width: usize, out: &mut [u64])
     let ready = roomy(out.len(), width, 9);
     nine_each64(packed, width, &mut out[0..ready]);
     last64(packed, width, ready, out);
+}
+
+// The number of the first field above `most`, or how many there are if none is. Where no field of this width can be, none is looked at.
+pub fn first_above(packed: &[u8], width: usize, count: usize, most: u64) -> usize
+    requires { ⌜ (width ≤ 64) × (count < 2 ^ 32) × (count * width ≤ 8 * length (now packed)) ⌝ }
+    ensures { λ r. ⌜ r ≡ firstAbove most (unpack width count (now (packed .entry))) ⌝ }
+{
+    if mask_of(width) <= most {
+        return count;
+    }
+    let ready = roomy(count, width, 9);
+    let mut i = nine_below(packed, width, ready, most);
+    let mut start = width * i;
+    while i < count {
+        if most < window(packed, start, width) {
+            return i;
+        }
+        start += width;
+        i += 1;
+    }
+    i
 }
 
 // Whether the unused bits, those of the last byte behind `count` fields, are 0.

@@ -5,13 +5,13 @@ use Prim.Native.Nat.{ℕ, zero, suc, _+_, _*_, _/_, _%_, _^_, _≤_, _<_}
 use native.Mathlib.Nat.{mul-zero, mul-suc, mul-le-mul}
 use native.Mathlib.Numerals.{add-one}
 use native.Mathlib.Omega.{arith}
-use lib.ListN.{length, getD, take, set, length-set, replicate, length-replicate}
-use lib.Seq.{take-suc-set, take-all}
+use lib.ListN.{length, getD, take, drop, set, length-set, replicate, length-replicate}
+use lib.Seq.{take-suc-set, take-all, drop-cons}
 use lib.Dec.{lit<}
 use lib.Ieee.{size}
 use lib.Ieee.Digits.{size-le}
 use Rattle.digits.specs.Digits.{ofDigits, toDigits, number, packedSize, pack, unpack, Below}
-use Rattle.digits.proofs.Laws.{to-of, to-snoc, getD-to, pow-mul}
+use Rattle.digits.proofs.Laws.{to-of, to-snoc, length-to, getD-to, pow-mul}
 use Rattle.digits.proofs.Stores.{of-zeros, of-take-next, of-take-lt}
 use Rattle.digits.proofs.Windows.{next-le}
 
@@ -35,6 +35,12 @@ module _ (w i start : ℕ) (e : start ≡ w * i) where
 -- the field that a window of w bits from there takes
 pub field-at : (w n : ℕ) (bs : List ℕ) (i start : ℕ) → i < n → start ≡ w * i → getD (unpack w n bs) i 0 ≡ number bs / 2 ^ start % 2 ^ w
 field-at w n bs i start h e = getD-to (2 ^ w) n (number bs) i h ∙ ap (λ (x : ℕ). number bs / x % 2 ^ w) (pow-mul 2 w i ∙ ap (λ (x : ℕ). 2 ^ x) (sym e))
+
+-- it is the first of the fields from i on
+pub field-from : (w n : ℕ) (bs : List ℕ) (i start : ℕ) → i < n → start ≡ w * i → drop i (unpack w n bs) ≡ number bs / 2 ^ start % 2 ^ w ∷ drop (i + 1) (unpack w n bs)
+field-from w n bs i start more e =
+    rw add-one (drop-cons (unpack w n bs) i 0 (omega (arith, length-to (2 ^ w) n (number bs))))
+    ∙ ap (λ (d : ℕ). d ∷ drop (i + 1) (unpack w n bs)) (field-at w n bs i start more e)
 
 -- ---- read: the first i places of `out` hold the first i fields of bs, and the next one starts at bit `start`
 
