@@ -1,29 +1,32 @@
 -- What reading gives, of any vector and any bytes: how many values, that each is of the kind's width, and that listed values may be put
 -- one by one. Assumes nothing.
-use mathlib.Core.Path.{_≡_, refl, sym, ap, _∙_}
+use mathlib.Core.Path.{_≡_, refl, sym, ap, ap₂, _∙_}
 use mathlib.Core.Bool.{Bool, true, false, cond}
-use Prim.Native.Nat.{ℕ, zero, suc, _-_, _*_, _^_, _<_}
+use Prim.Native.Nat.{ℕ, zero, suc, _+_, _-_, _*_, _%_, _^_, _<_}
 use native.Mathlib.Nat.{suc-inj, div-eq-of-lt}
 use native.Mathlib.Omega.{arith}
 use mathlib.Core.List.{List, [], _∷_, map, zipWith}
 use mathlib.Core.Option.{Option, none, some}
 use lib.ListN.{length, drop, length-append, length-map}
 use lib.Dec.{eqb}
-use lib.IntN.{ℤ}
+use lib.IntN.{ℤ, pos, _+ℤ_}
 use lib.Pow.{pow-pos}
 use lib.Ieee.{Format, binary32, binary64, Float, mul, ofInt, top}
 use lib.Ieee.Bits.{toBits-lt}
 use lib.Ieee.Fits.{mul-fits}
+use mir.Val.{toZ}
 use Rattle.digits.specs.Lists.{Each, join}
 use Rattle.digits.specs.Digits.{number}
 use Rattle.digits.proofs.Lists.{each-append}
 use Rattle.digits.proofs.Laws.{length-to}
 use Rattle.digits.proofs.Rows.{length-numbers}
-use Rattle.rules.specs.Kind.{wordBits, Values}
+use Rattle.rules.specs.Kind.{word, wordBits, Values}
 use Rattle.rules.specs.Decimal.{Pair, back, power, negPower}
 use Rattle.rules.specs.Vector.{Raw, orElse, fields, wholes, stored, marks, marked, decoded}
 use Rattle.rules.specs.Page.{sOf, countOf, vectorsOf, offsetsOf, bodyOf, rawFrom, rawsFrom, rawsOf}
 use Rattle.rules.specs.Read.{valuesOf}
+use Rattle.rules.proofs.Fields.{sum-of-words}
+use Rattle.rules.proofs.Tries.{Held}
 use Rattle.rules.proofs.Pages.{Cut}
 use Rattle.rules.proofs.Reading.{Rising}
 use Rattle.rules.proofs.Marks.{replaced, marked-replaced}
@@ -139,6 +142,18 @@ pub joined-values : (fmt : Format) (rs : List Raw) → Each (λ (r : Raw). Value
 joined-values fmt [] h = tt
 joined-values fmt (r ∷ rs) h =
     each-append (λ (v : ℕ). v < 2 ^ wordBits fmt) (decoded fmt r) (join (map (decoded fmt) rs)) (decoded-values fmt r (h .0)) (joined-values fmt rs (h .1))
+
+-- ---- the words' sums, read as signed: the whole numbers, where the signed range holds those
+
+pub words-summed : (fmt : Format) (r : Raw) → r .frame < 2 ^ wordBits fmt → Each (Held fmt) (wholes fmt r)
+    → map (λ (d : ℕ). toZ (word fmt) ((r .frame + d) % 2 ^ wordBits fmt)) (fields r) ≡ wholes fmt r
+unfolding wholes
+words-summed fmt r framed held = go (fields r) held
+  where
+    go : (ds : List ℕ) → Each (Held fmt) (map (λ (d : ℕ). toZ (word fmt) (r .frame) +ℤ pos d) ds)
+        → map (λ (d : ℕ). toZ (word fmt) ((r .frame + d) % 2 ^ wordBits fmt)) ds ≡ map (λ (d : ℕ). toZ (word fmt) (r .frame) +ℤ pos d) ds
+    go [] h = refl
+    go (d ∷ ds) h = ap₂ (λ (z : ℤ) (zs : List ℤ). z ∷ zs) (sum-of-words (word fmt) (r .frame) d framed (h .0)) (go ds (h .1))
 
 -- ---- as code makes them: all are brought back, then the listed ones are put one by one
 

@@ -4,6 +4,7 @@ use Prim.Native.Nat.{ℕ, zero, suc, _+_, _-_, _*_, _/_, _^_, _<_, _≤_, min, z
 use native.Mathlib.Nat.{le-refl, le-trans, lt-of-lt-of-le, le-of-eq, suc-inj, mul-le-mul-right, mul-le-mul-left, div-eq-sub-div, div-eq-of-lt, lt-of-not-le}
 use native.Mathlib.Numerals.{add-one}
 use native.Mathlib.Decide.{decLe}
+use lib.Dec.{lit≤}
 use native.Mathlib.Omega.{arith}
 use mathlib.Core.List.{List, [], _∷_, _++_, map}
 use mathlib.Core.Option.{Option, none, some}
@@ -26,7 +27,7 @@ use Rattle.rules.specs.Write.{Allowed, Inside, bound}
 use Rattle.rules.proofs.Order.{AtMost, least-below, least-one, width-fewest}
 use Rattle.rules.proofs.Fields.{field-lt}
 use Rattle.rules.proofs.Tries.{Held, tried-some}
-use Rattle.rules.proofs.Vectors.{ComesBack, turns-filled, turned-back, length-fields}
+use Rattle.rules.proofs.Vectors.{ComesBack, wholes-back, turns-filled, turned-back, length-fields}
 use Rattle.rules.proofs.Pages.{Fit, Cut, total, length-layout}
 use Rattle.rules.proofs.Reading.{Sound, Rising}
 
@@ -35,6 +36,10 @@ use Rattle.rules.proofs.Reading.{Sound, Rising}
 pub power-word : (fmt : Format) → 256 ^ wordBytes fmt ≡ 2 ^ wordBits fmt
 power-word binary32 = refl
 power-word binary64 = refl
+
+pub small-word : (fmt : Format) → wordBits fmt ≤ 64
+small-word binary32 = lit≤ tt
+small-word binary64 = lit≤ tt
 
 pub places-few : (i : ℕ) {A : Type 0} (ts : List (Option A)) → length (places i ts) ≤ length ts
 unfolding places
@@ -108,6 +113,7 @@ module _ (fmt : Format) (p : Pair) (turn : ℕ → Option ℤ) (comes : ComesBac
     few = let h = places-few 0 ts in omega (arith, turned-length, length-turns);
     width = width-fewest (fieldsOf zs) (wordBits fmt) turned-below;
     rising = places-rising (length zs) 0 ts (omega (arith, turned-length, length-turns));
+    held = let h = turns-filled fmt p turn comes vs in subst (Each (Held fmt)) (sym (wholes-back fmt p zs (places 0 ts) (picks ts vs) h)) h;
   }
 
   -- a vector's counts and positions are 2 bytes each

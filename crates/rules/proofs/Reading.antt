@@ -5,15 +5,19 @@ use Prim.Native.Nat.{ℕ, suc, _+_, _-_, _*_, _^_, _<_, _≤_}
 use native.Mathlib.Omega.{arith}
 use mathlib.Core.List.{List, [], _∷_, _++_}
 use lib.ListN.{length, drop, length-append}
+use lib.IntN.{ℤ}
+use lib.Signed.{mag}
 use lib.Ieee.{Format}
+use mir.Val.{hbits}
 use borrow.Author.Tests.{ltb-true, ltb-false, lt-ltb, le-ltb, not-false}
 use Rattle.digits.specs.Lists.{Each}
-use Rattle.rules.specs.Kind.{minS, maxS, maxValues, metaBytes, maxExponent, wordBits}
-use Rattle.rules.specs.Vector.{Raw}
+use Rattle.rules.specs.Kind.{minS, maxS, maxValues, metaBytes, maxExponent, word, wordBits}
+use Rattle.rules.specs.Vector.{Raw, wholes}
 use Rattle.rules.specs.Page.{Meta, metaOf, vectorBytes, vectorSize, sizeOf, starts, bodies, header, layout, vectors, rawFrom, versionOf, modeOf, encodingOf, sOf, countOf, vectorsOf, offsetsOf, bodyOf}
 use Rattle.rules.specs.Verdict.{fine, verdict, row, the-page, in-vector, in-vector-at, _below_, _above_, _isnt_}
-use Rattle.rules.specs.Read.{headRows, offsetsRow, metaRows, Listed, positionsRows, listRows, Cursor, here, start, vectorRows, vectorsRows, pageRows, readRows}
+use Rattle.rules.specs.Read.{headRows, offsetsRow, metaRows, Listed, positionsRows, outOfRange, sumsRows, payloadRows, Cursor, here, start, vectorRows, vectorsRows, pageRows, readRows}
 use Rattle.rules.proofs.Rows.{row-passes, row-fine, row-first, first-passes, first-fine, is, isnt-false, neither, or-false}
+use Rattle.rules.proofs.Tries.{Held}
 use Rattle.rules.proofs.Pages.{Fit, Cut, length-vector, length-layout, front-meta, front-raw, front-drop, s-back, count-back, offsets-back, body-back}
 
 -- ---- positions
@@ -39,6 +43,22 @@ positions-fine v n k (p ∷ ps) e =
     let t = or-false (not (p below n)) (p below k .low) (c .0) in
     (ltb-false p (k .low) (t .1), ltb-true p n (not-false (p below n) (t .0)), positions-fine v n (record { index = suc (k .index); low = suc p }) ps (c .1))
 
+-- ---- sums
+
+pub sums-pass : (fmt : Format) (v i : ℕ) (zs : List ℤ) → Each (Held fmt) zs → verdict (sumsRows fmt v i zs) ≡ fine
+unfolding sumsRows
+sums-pass fmt v i [] h = refl
+sums-pass fmt v i (z ∷ zs) h =
+    first-passes (verdict (row 17 (in-vector-at v i) (outOfRange fmt z))) _
+    (row-passes 17 (in-vector-at v i) (outOfRange fmt z) (ap not (lt-ltb (mag z) (2 ^ hbits (word fmt)) (h .0)))) (sums-pass fmt v (suc i) zs (h .1))
+
+pub sums-fine : (fmt : Format) (v i : ℕ) (zs : List ℤ) → verdict (sumsRows fmt v i zs) ≡ fine → Each (Held fmt) zs
+unfolding sumsRows
+sums-fine fmt v i [] e = tt
+sums-fine fmt v i (z ∷ zs) e =
+    let c = row-first 17 (in-vector-at v i) (outOfRange fmt z) _ e in
+    (ltb-true (mag z) (2 ^ hbits (word fmt)) (not-false (mag z below 2 ^ hbits (word fmt)) (c .0)), sums-fine fmt v (suc i) zs (c .1))
+
 -- ---- one vector
 
 -- what the reader asks of a vector
@@ -48,6 +68,7 @@ pub record Sound (fmt : Format) (r : Raw) : Type 0 where
   pub few : length (r .positions) ≤ r .count
   pub width : r .width ≤ wordBits fmt
   pub rising : Rising (r .count) 0 (r .positions)
+  pub held : Each (Held fmt) (wholes fmt r)
 
 -- a vector that was laid out passes
 module _ (fmt : Format) (v : ℕ) (r : Raw) (rest : List ℕ) (f : Fit fmt r) (s : Sound fmt r) where
@@ -68,9 +89,12 @@ module _ (fmt : Format) (v : ℕ) (r : Raw) (rest : List ℕ) (f : Fit fmt r) (s
         le-ltb (length bs) (sizeOf fmt r) (omega arith),
       )
 
-  pub list-passes : verdict (listRows fmt v (r .count) (metaOf r) (vectorBytes fmt r ++ rest)) ≡ fine
-  unfolding listRows
-  list-passes = rw (front-raw fmt r rest f) (positions-pass v (r .count) (record { index = 0; low = 0 }) (r .positions) (s .rising))
+  pub payload-passes : verdict (payloadRows fmt v (r .count) (metaOf r) (vectorBytes fmt r ++ rest)) ≡ fine
+  unfolding payloadRows
+  payload-passes =
+      rw (front-raw fmt r rest f)
+      (first-passes (verdict (positionsRows v (r .count) (record { index = 0; low = 0 }) (r .positions))) _
+      (positions-pass v (r .count) (record { index = 0; low = 0 }) (r .positions) (s .rising)) (sums-pass fmt v 0 (wholes fmt r) (s .held)))
 
 -- what it shows that a vector's rows pass: the one door from "fine" to facts, a field a row. First the rows before 13
 pub record MetaPassed (fmt : Format) (n : ℕ) (m : Meta) (bs : List ℕ) : Type 0 where
@@ -106,11 +130,14 @@ pub record Passed (fmt : Format) (n : ℕ) (m : Meta) (bs : List ℕ) : Type 0 w
   pub narrow : m .width ≤ wordBits fmt
   pub whole : vectorSize fmt n m ≤ length bs
   pub rising : Rising n 0 (rawFrom fmt n m (drop (metaBytes fmt) bs) .positions)
+  pub held : Each (Held fmt) (wholes fmt (rawFrom fmt n m (drop (metaBytes fmt) bs)))
 
-pub passed : (fmt : Format) (v n : ℕ) (m : Meta) (bs : List ℕ) → verdict (metaRows fmt v n m bs) ≡ fine → verdict (listRows fmt v n m bs) ≡ fine → Passed fmt n m bs
-unfolding listRows
-passed fmt v n m bs ok listed =
+pub passed : (fmt : Format) (v n : ℕ) (m : Meta) (bs : List ℕ) → verdict (metaRows fmt v n m bs) ≡ fine → verdict (payloadRows fmt v n m bs) ≡ fine → Passed fmt n m bs
+unfolding payloadRows
+passed fmt v n m bs ok filled =
     let p = meta-fine fmt v n m bs ok in
+    let r = rawFrom fmt n m (drop (metaBytes fmt) bs) in
+    let a = first-fine (verdict (positionsRows v n (record { index = 0; low = 0 }) (r .positions))) _ filled in
     record {
       room = p .room;
       exponent = p .exponent;
@@ -118,7 +145,8 @@ passed fmt v n m bs ok listed =
       few = p .few;
       narrow = p .narrow;
       whole = p .whole;
-      rising = positions-fine v n (record { index = 0; low = 0 }) (rawFrom fmt n m (drop (metaBytes fmt) bs) .positions) listed;
+      rising = positions-fine v n (record { index = 0; low = 0 }) (r .positions) (a .0);
+      held = sums-fine fmt v 0 (wholes fmt r) (a .1);
     }
 
 pub vector-fine : (fmt : Format) (size : ℕ) (c : Cursor) (o : ℕ) (m : Meta) (bs : List ℕ) → verdict (vectorRows fmt size c o m bs) ≡ fine → (o ≡ c .offset) × Passed fmt (here size c) m bs
@@ -140,7 +168,7 @@ vectors-pass fmt size c (r ∷ rs) k f s =
       ← k .0,
       is (c .offset) (c .offset) refl,
       meta-passes fmt (c .vector) r (bodies fmt rs) (f .0) (s .0),
-      list-passes fmt (c .vector) r (bodies fmt rs) (f .0) (s .0),
+      payload-passes fmt (c .vector) r (bodies fmt rs) (f .0) (s .0),
       front-drop fmt r (bodies fmt rs) (f .0),
     )
     (vectors-pass fmt size (record { vector = suc (c .vector); offset = c .offset + sizeOf fmt r; left = c .left - size }) rs (k .2) (f .1) (s .1))

@@ -1,17 +1,18 @@
 -- One vector: what was encoded is decoded. Assumes nothing.
 use mathlib.Core.Path.{_≡_, refl, sym, ap, ap₂, _∙_}
-use Prim.Native.Nat.{ℕ, _+_, _%_, _^_}
+use Prim.Native.Nat.{ℕ, _^_}
 use mathlib.Core.List.{List, [], _∷_, map, zipWith}
 use mathlib.Core.Option.{Option, none, some}
 use lib.ListN.{length, length-map}
 use lib.Pow.{pow-pos}
-use lib.IntN.{ℤ, pos, natAbs, _-ℤ_}
+use lib.IntN.{ℤ, pos, natAbs, _+ℤ_, _-ℤ_}
 use lib.Ieee.{Format}
 use mir.Val.{hbits, ofZ, toZ}
-use Rattle.rules.specs.Kind.{word, wordBits}
+use mir.Facts.{toZ-ofZ}
+use Rattle.rules.specs.Kind.{word}
 use Rattle.digits.specs.Lists.{Each}
 use Rattle.digits.specs.Digits.{pack, unpack}
-use Rattle.digits.proofs.Lists.{each-map, each-both, each-below}
+use Rattle.digits.proofs.Lists.{each-map, each-below}
 use Rattle.digits.proofs.Pack.{unpack-pack}
 use Rattle.rules.specs.Decimal.{Pair, back}
 use Rattle.rules.specs.Vector.{filled, standIn, orElse, least, fieldsOf, widthOf, places, picks, rawOf, fields, wholes, marks, marked, decoded}
@@ -42,10 +43,10 @@ pub wholes-back : (fmt : Format) (p : Pair) (zs : List ℤ) (ps xs : List ℕ) �
 unfolding wholes rawOf fieldsOf
 wholes-back fmt p zs ps xs h =
     let m : ℤ = least zs in
-    let hm : Held fmt m = least-one (Held fmt) zs (pow-pos (hbits (word fmt))) h in
-    ap (map (λ (d : ℕ). toZ (word fmt) ((ofZ (word fmt) m + d) % 2 ^ wordBits fmt))) (fields-back fmt p zs ps xs)
-    ∙ map-back (λ (z : ℤ). natAbs (z -ℤ m)) (λ (d : ℕ). toZ (word fmt) ((ofZ (word fmt) m + d) % 2 ^ wordBits fmt)) zs
-    (each-map (λ (z : ℤ). AtMost m z × Held fmt z) (λ (z : ℤ). toZ (word fmt) ((ofZ (word fmt) m + natAbs (z -ℤ m)) % 2 ^ wordBits fmt) ≡ z) (λ z k. field-back (word fmt) m z (k .0) hm (k .1)) zs (each-both (AtMost m) (Held fmt) zs (least-below zs) h))
+    let framed : toZ (word fmt) (ofZ (word fmt) m) ≡ m = toZ-ofZ (record { sfits = least-one (Held fmt) zs (pow-pos (hbits (word fmt))) h }) in
+    ap₂ (λ (a : ℤ) (ds : List ℕ). map (λ (d : ℕ). a +ℤ pos d) ds) framed (fields-back fmt p zs ps xs)
+    ∙ map-back (λ (z : ℤ). natAbs (z -ℤ m)) (λ (d : ℕ). m +ℤ pos d) zs
+    (each-map (AtMost m) (λ (z : ℤ). m +ℤ pos (natAbs (z -ℤ m)) ≡ z) (field-back m) zs (least-below zs))
 
 -- ---- the round trip of one vector
 

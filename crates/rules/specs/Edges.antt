@@ -1,16 +1,16 @@
 -- A second table of calls with what each must give: what the starred recordings leave open. It pins the arithmetic where a likely mistake
 -- shows, the shapes of a page, every row with its vector number and place, and the order of the rows. Assumes nothing.
-use Prim.Native.Nat.{ℕ, zero, suc, _+_}
+use Prim.Native.Nat.{ℕ, zero, suc, _+_, _-_, _*_, _/_}
 use mathlib.Core.Path.{_≡_, refl}
 use mathlib.Core.Bool.{true}
 use mathlib.Core.List.{List, [], _∷_, _++_}
-use lib.ListN.{replicate}
+use lib.ListN.{length, replicate}
 use lib.IntN.{ℤ, pos, negℤ}
 use lib.Ieee.{Format, binary32, binary64}
 use mir.Val.{ofZ}
 use Rattle.digits.specs.Digits.{le}
-use Rattle.rules.specs.Kind.{word, wordBytes}
-use Rattle.rules.specs.Verdict.{the-page, in-vector, in-vector-at, done, refused, done-with, refusal}
+use Rattle.rules.specs.Kind.{word, wordBits, wordBytes}
+use Rattle.rules.specs.Verdict.{Point, the-page, in-vector, in-vector-at, done, refused, done-with, refusal}
 use Rattle.rules.specs.Recordings.{hex, Line, writes, measures, reads, reads-vector, examines, chooses, written, flawed, moved, faulty, allHold, allRules}
 use Rattle.rules.specs.declared.Choice.{Choice}
 
@@ -299,18 +299,6 @@ returns =
     ∷ reads binary32 (front 1 ++ hex 4 0x0A_00_00_00 ++ hex 5 0x00_00_00_80_00) 1 (done (0xBE5BE6FF ∷ []))
     -- 64-bit -2^63, e 18
     ∷ reads binary64 (front 1 ++ hex 4 0x12_00_00_00 ++ hex 9 0x00_00_00_00_00_00_00_80_00) 1 (done (0xC022725DD1D243AC ∷ []))
-    -- frame 2^31 - 1 and field 1: 2^31, read as -2^31
-    ∷ reads binary32 (front 2 ++ hex 4 0x00_00_00_00 ++ hex 5 0xFF_FF_FF_7F_01 ++ hex 1 0x02) 2 (done (0x4F000000 ∷ 0xCF000000 ∷ []))
-    -- frame -1 and field 2^31 + 1: modulo 2^32 that is 2^31, read as -2^31
-    ∷ reads binary32 (front 2 ++ hex 4 0x00_00_00_00 ++ hex 5 0xFF_FF_FF_FF_20 ++ hex 8 0x00_00_00_00_01_00_00_80)
-    2 (done (0xBF800000 ∷ 0xCF000000 ∷ []))
-    -- 64-bit: frame 2^63 - 1 and field 1
-    ∷ reads binary64 (front 2 ++ hex 4 0x00_00_00_00 ++ hex 9 0xFF_FF_FF_FF_FF_FF_FF_7F_01 ++ hex 1 0x02)
-    2 (done (0x43E0000000000000 ∷ 0xC3E0000000000000 ∷ []))
-    -- 64-bit: frame -1 and field 2^63 + 1
-    ∷ reads binary64
-    (front 2 ++ hex 4 0x00_00_00_00 ++ hex 9 0xFF_FF_FF_FF_FF_FF_FF_FF_40 ++ hex 16 0x00_00_00_00_00_00_00_00_01_00_00_00_00_00_00_80)
-    2 (done (0xBFF0000000000000 ∷ 0xC3E0000000000000 ∷ []))
     ∷ []
 
 -- ---- vectors and pages, both ways
@@ -545,6 +533,111 @@ refusals =
     ∷ examines binary32 (behind 2 ++ hex 4 0x00_00_00_00 ++ hex 5 0x07_00_00_00_00) (done (replicate 10 0x40E00000))
     ∷ []
 
+-- ---- row 17, from the reader, the examiner and the reading of one vector: frame plus field leaves the kind's signed range. Every page is made
+-- for both kinds; in brackets the mistake that would answer otherwise
+
+-- the largest whole number of the kind, and the value that it comes back as, which is an exception
+abbrev pub top : Format → ℕ
+top binary32 = 2147483647
+top binary64 = 9223372036854775807
+
+abbrev pub topBack : Format → ℕ
+topBack binary32 = 0x4F000000
+topBack binary64 = 0x43E0000000000000
+
+-- a vector by its count of exceptions, frame and width; then its packed fields, positions and exceptions
+abbrev pub body : Format → ℕ → ℤ → ℕ → List ℕ → List ℕ
+body fmt k z w rest = (0 ∷ 0 ∷ k ∷ 0 ∷ le (wordBytes fmt) (ofZ (word fmt) z)) ++ (w ∷ rest)
+
+abbrev pub zeros : Format → List ℕ
+zeros fmt = body fmt 0 (pos 0) 0 []
+
+-- on the largest frame with fields of one bit: a position leaves the range where its bit is 1
+abbrev pub atTop : Format → ℕ → List ℕ → List ℕ
+atTop fmt k rest = body fmt k (pos (top fmt)) 1 rest
+
+abbrev pub nan : Format → List ℕ
+nan fmt = replicate (wordBytes fmt) 0xFF
+
+-- a page of one value: frame z, and field d in w bits
+abbrev pub sum : Format → ℤ → ℕ → ℕ → List ℕ
+sum fmt z w d = front 1 ++ body fmt 0 z w (le ((w + 7) / 8) d)
+
+-- a page at s 3 of two vectors: a of eight values, b of n
+abbrev pub two : List ℕ → ℕ → List ℕ → List ℕ
+two a n b = hex 4 0x01_00_00_03 ++ ((8 + n) ∷ hex 3 0) ++ hex 4 0x08_00_00_00 ++ le 4 (8 + length a) ++ a ++ b
+
+-- the sum is the top of the range: both readings give its value, and the examiner comes to row 21
+abbrev pub stays : Format → List ℕ → List Line
+stays fmt page =
+    flawed fmt page (topBack fmt ∷ []) 21 (in-vector-at 0 0) ∷ reads-vector fmt page 0 1 (done (topBack fmt ∷ [])) ∷ []
+
+-- all three calls refuse, for that vector
+abbrev pub thrice : Format → List ℕ → ℕ → Point → List Line
+thrice fmt page a p = faulty fmt page a p ∷ reads-vector fmt page (p .vector) 8 (refused a p) ∷ []
+
+abbrev pub leaves : Format → List ℕ → ℕ → ℕ → List Line
+leaves fmt page v i = thrice fmt page 17 (in-vector-at v i)
+
+unfoldable pub ranges : Format → List Line
+ranges fmt =
+    -- frame 2^(W - 1) - 1 and field 0; frame 2^(W - 1) - 2 and field 1 (a range that ends one below)
+    stays fmt (sum fmt (pos (top fmt)) 0 0)
+    ++ stays fmt (sum fmt (pos (top fmt - 1)) 1 1)
+    -- width W: frame -1 and field 2^(W - 1); frame -2^(W - 1) and field 2^W - 1 (a field read as signed, a frame read as unsigned)
+    ++ stays fmt (sum fmt (negℤ (pos 1)) (wordBits fmt) (top fmt + 1))
+    ++ stays fmt (sum fmt (negℤ (pos (top fmt + 1))) (wordBits fmt) (2 * top fmt + 1))
+    -- each one more: 2^(W - 1) (the modulo kept, the unsigned range, a range that ends one above)
+    ++ leaves fmt (sum fmt (pos (top fmt)) 1 1) 0 0
+    ++ leaves fmt (sum fmt (negℤ (pos 1)) (wordBits fmt) (top fmt + 2)) 0 0
+    -- field 2^W - 1 on frame -1 and on the largest: modulo 2^W they make -2 and 2^(W - 1) - 2 (a wrap told by a sign other than the frame's)
+    ++ leaves fmt (sum fmt (negℤ (pos 1)) (wordBits fmt) (2 * top fmt + 1)) 0 0
+    ++ leaves fmt (sum fmt (pos (top fmt)) (wordBits fmt) (2 * top fmt + 1)) 0 0
+    -- vector 1, the second of three positions (a place counted from the first value of the page, vector number 0)
+    ++ leaves fmt (two (zeros fmt) 3 (atTop fmt 0 (hex 1 0x02))) 1 1
+    -- two positions with fields 1 and 3, neither listed (the last or the largest in place of the first)
+    ++ leaves fmt (front 3 ++ body fmt 0 (pos (top fmt)) 2 (hex 1 0x34)) 0 1
+    -- two positions, the first listed (unlisted positions only, or before the others)
+    ++ leaves fmt (front 3 ++ atTop fmt 1 (hex 1 0x06 ++ hex 2 0x01_00 ++ nan fmt)) 0 1
+    -- two positions, the second listed (listed positions only, or before the others)
+    ++ leaves fmt (front 3 ++ atTop fmt 1 (hex 1 0x06 ++ hex 2 0x02_00 ++ nan fmt)) 0 1
+    -- one position, listed (unlisted positions only, since a listed one takes its stored bits)
+    ++ leaves fmt (front 3 ++ atTop fmt 1 (hex 1 0x02 ++ hex 2 0x01_00 ++ nan fmt)) 0 1
+    -- 7 for data, the last byte of the exception, before 17 (the sums looked at once the packed part is there)
+    ++ thrice fmt (front 3 ++ atTop fmt 1 (hex 1 0x06 ++ hex 2 0x01_00 ++ hex (wordBytes fmt - 1) 0)) 7 (in-vector 0)
+    -- 13, position 3 of three values, before 17 (17 before 13)
+    ++ thrice fmt (front 3 ++ atTop fmt 1 (hex 1 0x06 ++ hex 2 0x03_00 ++ nan fmt)) 13 (in-vector-at 0 0)
+    -- 17 before 20 (sums among the examiner's own rows)
+    ++ leaves fmt (front 2 ++ atTop fmt 0 (hex 1 0xFE)) 0 1
+
+unfoldable pub ranks : Format → List Line
+ranks fmt =
+    -- fields 0 and 0, all unused bits 1 (as many sums as the packed bytes hold, the largest field of that width in place of each)
+    flawed fmt (front 2 ++ atTop fmt 0 (hex 1 0xFC)) (topBack fmt ∷ topBack fmt ∷ []) 20 (in-vector 0)
+    -- 17 before 14, a byte after the last vector; of one vector 8 again before 17 (17 behind 14, 17 before the second 8)
+    ∷ faulty fmt (front 2 ++ atTop fmt 0 (hex 1 0x02) ++ hex 1 0x00) 17 (in-vector-at 0 1)
+    ∷ reads-vector fmt (front 2 ++ atTop fmt 0 (hex 1 0x02) ++ hex 1 0x00) 0 8 (refused 8 (in-vector 0))
+    -- 17 before 15: no room (17 found while values are written)
+    ∷ reads fmt (front 2 ++ atTop fmt 0 (hex 1 0x02)) 0 (refused 17 (in-vector-at 0 1))
+    ∷ reads-vector fmt (front 2 ++ atTop fmt 0 (hex 1 0x02)) 0 0 (refused 17 (in-vector-at 0 1))
+    -- 17 in vector 1 before 21, 22, 23 and 24 in vector 0 (sums among the examiner's own rows)
+    ∷ faulty fmt (two (body fmt 0 (pos (top fmt)) 0 []) 2 (atTop fmt 0 (hex 1 0x02))) 17 (in-vector-at 1 1)
+    ∷ faulty fmt (two (body fmt 1 (pos 0) 0 (hex 2 0x00_00 ++ hex (wordBytes fmt) 0)) 2 (atTop fmt 0 (hex 1 0x02))) 17 (in-vector-at 1 1)
+    ∷ faulty fmt (two (body fmt 1 (pos 0) 1 (hex 1 0x01 ++ hex 2 0x00_00 ++ nan fmt)) 2 (atTop fmt 0 (hex 1 0x02))) 17 (in-vector-at 1 1)
+    ∷ faulty fmt (two (body fmt 0 (pos 0) 1 (hex 1 0x00)) 2 (atTop fmt 0 (hex 1 0x02))) 17 (in-vector-at 1 1)
+    -- 17 in vector 0 before 8, 7, 9 and 13 in vector 1 (sums looked at once all vectors have passed their other rows)
+    ∷ faulty fmt (hex 8 0x01_00_00_03_09_00_00_00 ++ hex 8 0x08_00_00_00_00_00_00_00 ++ atTop fmt 0 (hex 1 0x10) ++ zeros fmt) 17 (in-vector-at 0 4)
+    ∷ faulty fmt (two (atTop fmt 0 (hex 1 0x10)) 1 []) 17 (in-vector-at 0 4)
+    ∷ faulty fmt (two (atTop fmt 0 (hex 1 0x10)) 1 (hex 1 0x13 ++ hex (4 + wordBytes fmt) 0)) 17 (in-vector-at 0 4)
+    ∷ faulty fmt (two (atTop fmt 0 (hex 1 0x10)) 1 (body fmt 1 (pos 0) 0 (hex 2 0x01_00 ++ nan fmt))) 17 (in-vector-at 0 4)
+    -- 17 in vector 0 is nothing to vector 1 (the sums of the whole page)
+    ∷ reads-vector fmt (two (atTop fmt 0 (hex 1 0x10)) 1 (zeros fmt)) 0 8 (refused 17 (in-vector-at 0 4))
+    ∷ reads-vector fmt (two (atTop fmt 0 (hex 1 0x10)) 1 (zeros fmt)) 1 8 (done (0 ∷ []))
+    ∷ []
+
+unfoldable pub sums : List Line
+sums = ranges binary32 ++ ranks binary32 ++ ranges binary64 ++ ranks binary64
+
 -- ---- rows 20 to 24, from the examiner alone; the reader gives the values
 
 unfoldable pub flaws : List Line
@@ -605,9 +698,9 @@ flaws =
     -- 24 in vector 1: width 1 for 7.0, 7.0
     ∷ flawed binary32 (behind 2 ++ hex 4 0x00_00_00_00 ++ hex 5 0x07_00_00_00_01 ++ hex 1 0x00) (sevens ++ 0x40E00000 ∷ 0x40E00000 ∷ [])
     24 (in-vector 1)
-    -- 24: fields 0, 512, 896 on frame L - 640 make L - 640, L - 128 and, modulo 2^32, -L, which is smaller than the frame
-    ∷ flawed binary32 (front 3 ++ hex 4 0x00_00_00_00 ++ hex 5 0x00_FD_FF_7F_0A ++ hex 4 0x00_00_08_38)
-    (0x4EFFFFFA ∷ 0x4EFFFFFE ∷ 0xCEFFFFFF ∷ []) 24 (in-vector 0)
+    -- 24, 64-bit: frame -2 for -1.0, 1.0, whose width 2 is that of their fields; none of them is 0
+    ∷ flawed binary64 (front 2 ++ hex 4 0x00_00_00_00 ++ hex 9 0xFE_FF_FF_FF_FF_FF_FF_FF_02 ++ hex 1 0x0D)
+    (0xBFF0000000000000 ∷ 0x3FF0000000000000 ∷ []) 24 (in-vector 0)
     -- 24, 64-bit: width 64 for 7.0
     ∷ flawed binary64 (front 1 ++ hex 4 0x00_00_00_00 ++ hex 9 0x07_00_00_00_00_00_00_00_40 ++ hex 8 0x00_00_00_00_00_00_00_00)
     (0x401C000000000000 ∷ []) 24 (in-vector 0)
@@ -859,10 +952,10 @@ choosing =
 -- ---- the table
 
 unfoldable pub edges : List Line
-edges = arithmetic ++ rounding ++ returns ++ shapes ++ refusals ++ flaws ++ older ++ settings ++ alone
+edges = arithmetic ++ rounding ++ returns ++ shapes ++ refusals ++ sums ++ flaws ++ older ++ settings ++ alone
 
 pub edges-hold : allHold edges ≡ true
-unfolding allRules rising edges arithmetic rounding returns shapes refusals flaws older settings alone
+unfolding allRules rising edges arithmetic rounding returns shapes refusals ranges ranks sums flaws older settings alone
 edges-hold = refl
 
 pub choosing-holds : allHold choosing ≡ true

@@ -1,6 +1,6 @@
 -- The examiner: the reader's checks without 15, then rows 20 to 24: the first vector at fault, in it the lowest row, in that the first
 -- position. Assumes nothing.
-use Prim.Native.Nat.{ℕ, zero, suc, _*_, _^_}
+use Prim.Native.Nat.{ℕ, suc, _*_, _^_}
 use mathlib.Core.Bool.{Bool, true, false, not, _||_}
 use mathlib.Core.List.{List, [], _∷_, zipWith}
 use mathlib.Core.Option.{Option, none, some}
@@ -85,7 +85,7 @@ unfoldable pub allRulesRows : Format → ℕ → List Raw → Rows
 allRulesRows fmt v [] = no-rows
 allRulesRows fmt v (r ∷ rs) = rulesRows fmt v r then allRulesRows fmt (suc v) rs
 
--- 1 to 14, then 20 to 24
+-- the page's rows, then 20 to 24
 unfoldable pub examineRows : Format → List ℕ → Rows
 examineRows fmt bs = pageRows fmt bs then allRulesRows fmt 0 (rawsOf fmt bs)
 

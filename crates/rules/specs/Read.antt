@@ -1,12 +1,15 @@
 -- The reader: the order of its checks, and what it gives. Assumes nothing.
-use Prim.Native.Nat.{ℕ, zero, suc, _+_, _-_, _*_, _^_, min}
+use Prim.Native.Nat.{ℕ, suc, _+_, _-_, _*_, _^_, min}
 use mathlib.Core.Bool.{Bool, not, _||_}
 use mathlib.Core.List.{List, [], _∷_, map}
 use lib.ListN.{length, drop}
+use lib.IntN.{ℤ}
+use lib.Signed.{mag}
 use lib.Ieee.{Format}
+use mir.Val.{hbits}
 use Rattle.digits.specs.Lists.{join}
-use Rattle.rules.specs.Kind.{minS, maxS, maxValues, maxExponent, wordBits, metaBytes}
-use Rattle.rules.specs.Vector.{Raw, decoded}
+use Rattle.rules.specs.Kind.{minS, maxS, maxValues, maxExponent, word, wordBits, metaBytes}
+use Rattle.rules.specs.Vector.{wholes, decoded}
 use Rattle.rules.specs.Page.{vectorSize, versionOf, modeOf, encodingOf, sOf, countOf, vectorsOf, offsetsOf, bodyOf, Meta, metaAt, rawFrom, rawsOf}
 use Rattle.rules.specs.Verdict.{Rows, no-rows, row, _then_, the-page, in-vector, in-vector-at, _below_, _above_, _isnt_, Result, call}
 
@@ -50,8 +53,21 @@ positionsRows v n k (p ∷ ps) =
     row 13 (in-vector-at v (k .index)) (not (p below n) || p below k .low)
     then positionsRows v n (record { index = suc (k .index); low = suc p }) ps
 
-unfoldable pub listRows : Format → ℕ → ℕ → Meta → List ℕ → Rows
-listRows fmt v n m bs = positionsRows v n (record { index = 0; low = 0 }) (rawFrom fmt n m (drop (metaBytes fmt) bs) .positions)
+-- 17: frame plus field leaves the kind's signed range, -2 ^ (W - 1) to 2 ^ (W - 1) - 1 (`mag` counts from 0 up and from -1 down); place: its
+-- position, counted from i, listed or not
+abbrev pub outOfRange : Format → ℤ → Bool
+outOfRange fmt z = not (mag z below 2 ^ hbits (word fmt))
+
+unfoldable pub sumsRows : Format → ℕ → ℕ → List ℤ → Rows
+sumsRows fmt v i [] = no-rows
+sumsRows fmt v i (z ∷ zs) = row 17 (in-vector-at v i) (outOfRange fmt z) then sumsRows fmt v (suc i) zs
+
+-- 13, 17
+unfoldable pub payloadRows : Format → ℕ → ℕ → Meta → List ℕ → Rows
+payloadRows fmt v n m bs =
+    let r = rawFrom fmt n m (drop (metaBytes fmt) bs) in
+    positionsRows v n (record { index = 0; low = 0 }) (r .positions)
+    then sumsRows fmt v 0 (wholes fmt r)
 
 -- ---- of all vectors
 
@@ -68,12 +84,12 @@ here size c = min size (c .left)
 abbrev pub next : Format → ℕ → Cursor → Meta → Cursor
 next fmt size c m = record { vector = suc (c .vector); offset = c .offset + vectorSize fmt (here size c) m; left = c .left - size }
 
--- 8, 7 for metadata, 9 to 12, 7 for data, 13; o is the offset that the page has for this vector
+-- 8, 7 for metadata, 9 to 12, 7 for data, 13, 17; o is the offset that the page has for this vector
 unfoldable pub vectorRows : Format → ℕ → Cursor → ℕ → Meta → List ℕ → Rows
 vectorRows fmt size c o m bs =
     row 8 (in-vector (c .vector)) (o isnt c .offset)
     then metaRows fmt (c .vector) (here size c) m bs
-    then listRows fmt (c .vector) (here size c) m bs
+    then payloadRows fmt (c .vector) (here size c) m bs
 
 -- each vector in turn; then 14
 unfoldable pub vectorsRows : Format → ℕ → Cursor → List ℕ → List ℕ → Rows
@@ -86,7 +102,7 @@ vectorsRows fmt size c (o ∷ os) bs =
 abbrev pub start : List ℕ → Cursor
 start bs = record { vector = 0; offset = 4 * vectorsOf bs; left = countOf bs }
 
--- 1 to 14
+-- 1 to 13, 17, 14
 unfoldable pub pageRows : Format → List ℕ → Rows
 pageRows fmt bs =
     headRows bs
@@ -98,7 +114,7 @@ pageRows fmt bs =
 unfoldable pub valuesOf : Format → List ℕ → List ℕ
 valuesOf fmt bs = join (map (decoded fmt) (rawsOf fmt bs))
 
--- 1 to 14, then 15
+-- the page's rows, then 15
 unfoldable pub readRows : Format → ℕ → List ℕ → Rows
 readRows fmt room bs = pageRows fmt bs then row 15 the-page (room below countOf bs)
 
@@ -107,5 +123,5 @@ readOf fmt room bs = call (readRows fmt room bs) (valuesOf fmt bs)
 
 -- to unfold this is to unfold all of the above
 unfoldable pub allRead : Unit {0}
-unfolding headRows offsetsRow metaRows positionsRows listRows vectorRows vectorsRows pageRows valuesOf readRows readOf
+unfolding headRows offsetsRow metaRows positionsRows sumsRows payloadRows vectorRows vectorsRows pageRows valuesOf readRows readOf
 allRead = tt

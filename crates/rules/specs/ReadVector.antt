@@ -9,7 +9,7 @@ use Rattle.rules.specs.Kind.{metaBytes}
 use Rattle.rules.specs.Vector.{decoded}
 use Rattle.rules.specs.Page.{vectorSize, sOf, countOf, vectorsOf, offsetsOf, Meta, metaAt, rawFrom}
 use Rattle.rules.specs.Verdict.{Rows, row, _then_, the-page, in-vector, _below_, _isnt_, Result, call}
-use Rattle.rules.specs.Read.{headRows, offsetsRow, metaRows, listRows}
+use Rattle.rules.specs.Read.{headRows, offsetsRow, metaRows, payloadRows}
 
 -- ---- where vector v lies
 
@@ -43,13 +43,13 @@ numberRows v bs =
     then offsetsRow bs
 
 -- of the vector alone, at the front of bs, where `low` is the end of the offsets: 8 if it starts before that, 7 for metadata, 9 to 12, 7 for
--- data, 8 again if it ends anywhere else than its span does, 13
+-- data, 8 again if it ends anywhere else than its span does, 13, 17
 unfoldable pub aloneRows : Format → ℕ → ℕ → ℕ → Span → Meta → List ℕ → Rows
 aloneRows fmt v n low l m bs =
     row 8 (in-vector v) (l .from below low)
     then metaRows fmt v n m bs
     then row 8 (in-vector v) (l .from + vectorSize fmt n m isnt l .to)
-    then listRows fmt v n m bs
+    then payloadRows fmt v n m bs
 
 -- then 15
 unfoldable pub readVectorRows : Format → ℕ → ℕ → List ℕ → Rows

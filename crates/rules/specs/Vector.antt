@@ -1,16 +1,16 @@
 -- One vector: its fields from its values (`encoded`), and its values from its fields (`decoded`). Bytes stand in Page. Assumes nothing.
-use Prim.Native.Nat.{ℕ, zero, suc, _+_, _*_, _/_, _%_, _^_, max}
-use mathlib.Core.Bool.{Bool, true, false, cond}
+use Prim.Native.Nat.{ℕ, zero, suc, max}
+use mathlib.Core.Bool.{cond}
 use mathlib.Core.List.{List, [], _∷_, map, zipWith}
 use mathlib.Core.Option.{Option, none, some}
 use lib.ListN.{length}
 use lib.Dec.{eqb}
-use lib.IntN.{ℤ, pos, _-ℤ_, natAbs}
+use lib.IntN.{ℤ, pos, _+ℤ_, _-ℤ_, natAbs}
 use lib.Signed.{leZ}
 use lib.Ieee.{Format, size}
 use mir.Val.{ofZ, toZ}
 use Rattle.digits.specs.Digits.{pack, unpack}
-use Rattle.rules.specs.Kind.{word, wordBits}
+use Rattle.rules.specs.Kind.{word}
 use Rattle.rules.specs.Decimal.{Pair, tried, back}
 
 -- a vector as the page holds it, with the count of its values: `frame` and `exceptions` are bit patterns of the kind's word
@@ -103,9 +103,9 @@ encoded fmt p vs =
 unfoldable pub fields : Raw → List ℕ
 fields r = unpack (r .width) (r .count) (r .packed)
 
--- frame plus field, modulo 2 ^ W, read as signed
+-- frame plus field: the frame read as signed, and a sum of any size
 unfoldable pub wholes : Format → Raw → List ℤ
-wholes fmt r = map (λ (d : ℕ). toZ (word fmt) ((r .frame + d) % 2 ^ wordBits fmt)) (fields r)
+wholes fmt r = map (λ (d : ℕ). toZ (word fmt) (r .frame) +ℤ pos d) (fields r)
 
 -- the bits stored for position i, where it is listed
 unfoldable pub stored : List ℕ → List ℕ → ℕ → Option ℕ

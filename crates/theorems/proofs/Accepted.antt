@@ -125,7 +125,7 @@ module _ (fmt : Format) (n : ℕ) (bs : List ℕ) (h : Bytes bs) (ok : Passed fm
 
   vector-sound : Sound fmt r
   unfolding rawFrom
-  vector-sound = record { exponent = ok .exponent; factor = ok .factor; few = rw length-numbers (ok .few); width = ok .narrow; rising = ok .rising }
+  vector-sound = record { exponent = ok .exponent; factor = ok .factor; few = rw length-numbers (ok .few); width = ok .narrow; rising = ok .rising; held = ok .held }
 
   vector-packed : Bytes (r .packed)
   vector-packed = raw-packed fmt n m (drop (metaBytes fmt) bs) (bytes-drop (metaBytes fmt) bs h) data-room

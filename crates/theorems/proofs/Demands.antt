@@ -20,8 +20,8 @@ use Rattle.digits.specs.Digits.{bit, bitOf}
 use Rattle.rules.specs.Kind.{minS, maxS, maxValues, word, maxExponent, roundingConstant, Bytes, Values}
 use Rattle.rules.specs.Decimal.{Pair, power, negPower, scaled, signed, truncated, whole, back, exception}
 use Rattle.rules.specs.Floats.{NearestEven, RoundedOnce, sumSize, sumSign, Small, NearestToInverse, AsNear, broughtBack}
-use Rattle.rules.specs.Vector.{Raw, tries, filled, fieldsOf, widthOf, encoded, fields, stored}
-use Rattle.rules.specs.Page.{vectors, pageOf, sOf, countOf, vectorsOf, bodyOf, metaAt}
+use Rattle.rules.specs.Vector.{Raw, tries, filled, fieldsOf, widthOf, encoded, fields, wholes, stored}
+use Rattle.rules.specs.Page.{vectors, pageOf, sOf, countOf, vectorsOf, bodyOf, metaAt, rawsOf}
 use Rattle.rules.specs.Verdict.{Point, Verdict, the-page, fine, refuse, verdict, ordered, Passes, FirstTrue, done, refused, done-with, refusal, Result, answer, after}
 use Rattle.rules.specs.Read.{readRows, valuesOf, readOf}
 use Rattle.rules.specs.ReadVector.{valuesIn, readVectorRows, vectorValues, readVectorOf}
@@ -33,6 +33,7 @@ use Rattle.rules.specs.Demands.{Answers, Leaves, Examines, FirstOfSmallest, Ali
 use Rattle.rules.specs.declared.Answer.{Answer}
 use Rattle.rules.specs.declared.Choice.{Choice}
 use Rattle.rules.proofs.Order.{width-holds, width-fewest}
+use Rattle.rules.proofs.Reading.{Sound}
 use Rattle.rules.proofs.Settings.{settings-pass, settings-fine}
 use Rattle.rules.proofs.Powers as Powers
 use native.Mathlib.Omega.{arith}
@@ -40,7 +41,8 @@ use Rattle.theorems.proofs.Called.{answers, leaves, verdict-gives, plac
 use Rattle.theorems.proofs.Examples.{nothing, nothing-written, nothing-read, nothing-accepted, no-bytes-refused, zeroPage, roomy, roomy-below, zero-written, zero-read, zero-vector-read, zero-lists-none, half}
 use Rattle.theorems.proofs.GivenBy.{chooser-numbered, measuring-numbered, writer-numbered, reader-numbered, vector-reader-numbered, examiner-numbered}
 use Rattle.theorems.proofs.RoundTrip.{written-length, round-trip}
-use Rattle.theorems.proofs.Done.{examined-count, writer-done, writer-too-short, page-when-done, writer-room, reader-room, read-done, read-values-done, vector-done, vector-values-done, vector-reader-room, examined-reads}
+use Rattle.theorems.proofs.Done.{examined-count, halves, writer-done, writer-too-short, page-when-done, writer-room, reader-room, read-done, read-values-done, vector-done, vector-values-done, vector-reader-room, examined-reads}
+use Rattle.theorems.proofs.Accepted.{raws-sound}
 use Rattle.theorems.proofs.Stretch.{vector-is-stretch}
 use Rattle.theorems.proofs.Elsewhere.{elsewhere-does-not-matter}
 use Rattle.theorems.proofs.Listing.{listed-exactly}
@@ -131,6 +133,11 @@ read-count fmt room bs vs e = read-done fmt room bs vs e
 
 pub read-width : (fmt : Format) (room : ℕ) (bs vs : List ℕ) → Bytes bs → readOf fmt room bs ≡ done vs → Values fmt vs
 read-width fmt room bs vs h e = read-values-done fmt room bs vs e h
+
+-- and the kind's signed range holds frame plus field at every position of every vector, listed or not (row 17)
+pub read-sums-are-held : (fmt : Format) (room : ℕ) (bs vs : List ℕ) → Bytes bs → readOf fmt room bs ≡ done vs
+    → Each (λ (r : Raw). Each (λ (z : ℤ). mag z < 2 ^ hbits (word fmt)) (wholes fmt r)) (rawsOf fmt bs)
+read-sums-are-held fmt room bs vs h e = each-map (Sound fmt) (λ (r : Raw). Each (λ (z : ℤ). mag z < 2 ^ hbits (word fmt)) (wholes fmt r)) (λ r s. s .held) (rawsOf fmt bs) (raws-sound fmt bs h (halves fmt room bs vs e .0))
 
 -- one vector by its number, of any bytes: as many values as that vector holds, each of the kind's width
 pub read-vector-count : (fmt : Format) (v room : ℕ) (bs vs : List ℕ) → readVectorOf fmt v room bs ≡ done vs → length vs ≡ valuesIn bs v

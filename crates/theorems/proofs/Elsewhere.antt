@@ -9,10 +9,10 @@ use lib.Seq.{getD-take, take-nil, length-take-le}
 use lib.Ieee.{Format}
 use Rattle.digits.specs.Digits.{number}
 use Rattle.rules.specs.Kind.{metaBytes}
-use Rattle.rules.specs.Vector.{Raw, decoded}
+use Rattle.rules.specs.Vector.{Raw, wholes, decoded}
 use Rattle.rules.specs.Page.{Meta, vectorSize, metaAt, rawFrom, sOf, countOf, vectorsOf}
 use Rattle.rules.specs.Verdict.{Rows, row, _then_, in-vector, _below_, _isnt_, verdict, settle}
-use Rattle.rules.specs.Read.{headRows, offsetsRow, metaRows, positionsRows, listRows}
+use Rattle.rules.specs.Read.{headRows, offsetsRow, metaRows, positionsRows, sumsRows, payloadRows}
 use Rattle.rules.specs.ReadVector.{valuesIn, Span, spanOf, numberRows, aloneRows, readVectorRows, vectorValues, readVectorOf}
 use Rattle.rules.specs.Demands.{vectorAt, Alike}
 use Rattle.theorems.proofs.Longer.{meta-same, raw-same, first-of}
@@ -52,9 +52,9 @@ module _ (fmt : Format) (n : ℕ) (m : Meta) (part other : List ℕ) (same : tak
   part-raw : rawFrom fmt n m (drop (metaBytes fmt) part) ≡ rawFrom fmt n m (drop (metaBytes fmt) other)
   part-raw = front (λ l. rawFrom fmt n m (drop (metaBytes fmt) l)) (λ l h. raw-same fmt n m (take k l) (drop k l) (omega (arith, length-take-le k l h)))
 
-  part-list : (v : ℕ) → listRows fmt v n m part ≡ listRows fmt v n m other
-  unfolding listRows
-  part-list v = ap (λ (r : Raw). positionsRows v n (record { index = 0; low = 0 }) (r .positions)) part-raw
+  part-payload : (v : ℕ) → payloadRows fmt v n m part ≡ payloadRows fmt v n m other
+  unfolding payloadRows
+  part-payload v = ap (λ (r : Raw). positionsRows v n (record { index = 0; low = 0 }) (r .positions) then sumsRows fmt v 0 (wholes fmt r)) part-raw
 
 meta-rows-same : (fmt : Format) (v n : ℕ) (m : Meta) (part other : List ℕ) → length part ≡ length other → metaRows fmt v n m part ≡ metaRows fmt v n m other
 unfolding metaRows
@@ -92,7 +92,7 @@ module _ (fmt : Format) (v : ℕ) (bs cs : List ℕ) (q : Alike fmt v bs cs) whe
   unfolding aloneRows
   alone-same =
       ap₂ (λ (a b : Rows). row 8 (in-vector v) (spanOf bs v .from below 4 * vectorsOf bs) then a then row 8 (in-vector v) (spanOf bs v .from + vectorSize fmt n m isnt spanOf bs v .to) then b)
-      (meta-rows-same fmt v n m (vectorAt bs v) (vectorAt cs v) at-long) (part-list fmt n m (vectorAt bs v) (vectorAt cs v) (q .vector) v)
+      (meta-rows-same fmt v n m (vectorAt bs v) (vectorAt cs v) at-long) (part-payload fmt n m (vectorAt bs v) (vectorAt cs v) (q .vector) v)
       ∙ ap₂ (λ (l : Span) (x : ℕ). aloneRows fmt v n (4 * x) l m (vectorAt cs v)) (q .offsets) many-same
       ∙ ap₂ (λ (x : ℕ) (y : Meta). aloneRows fmt v x (4 * vectorsOf cs) (spanOf cs v) y (vectorAt cs v)) values-same meta-is
 

@@ -1,35 +1,32 @@
 -- Rows 20 to 24 of one vector, both ways: a vector that was encoded passes them, and one that passes is the one encoded for its values.
 -- Assumes nothing.
-use mathlib.Core.Path.{_≡_, refl, sym, ap, ap₂, _∙_, subst}
+use mathlib.Core.Path.{_≡_, refl, sym, ap, ap₂, _∙_}
 use mathlib.Core.Bool.{Bool, false, not, _||_}
-use Prim.Native.Nat.{ℕ, suc, _+_, _*_, _%_, _^_, _<_}
-use native.Mathlib.Nat.{le-refl, le-trans, lt-of-lt-of-le, suc-inj, le-suc, eq-or-lt-of-le, mod-lt}
+use Prim.Native.Nat.{ℕ, suc, _+_, _*_, _^_, _<_}
+use native.Mathlib.Nat.{le-refl, le-trans, lt-of-lt-of-le, suc-inj, le-suc, eq-or-lt-of-le}
 use native.Mathlib.Omega.{arith}
 use mathlib.Core.Logic.{inl, inr}
 use mathlib.Core.List.{List, [], _∷_, map, zipWith}
 use mathlib.Core.Option.{Option, none, some}
 use lib.ListN.{length, length-map}
-use lib.Pow.{pow-pos, pow-mono}
-use lib.IntN.{ℤ, natAbs, _-ℤ_}
-use lib.Signed.{mag}
+use lib.Pow.{pow-pos}
+use lib.IntN.{ℤ, pos, natAbs, _+ℤ_, _-ℤ_}
 use lib.Ieee.{Format}
 use borrow.Author.Tests.{lt-ltb, ltb-true, not-false}
-use mir.Syntax.{Width}
-use mir.Val.{bits, hbits, ofZ, toZ}
-use mir.Facts.{sfits-toZ, fits-of-lt}
+use mir.Val.{hbits, ofZ, toZ}
+use mir.Facts.{toZ-ofZ}
 use Rattle.digits.specs.Lists.{Each}
 use Rattle.digits.specs.Digits.{number, pack}
-use Rattle.digits.proofs.Lists.{each-map, each-of-map, each-all, each-below, below-each}
-use Rattle.digits.proofs.Laws.{to-below}
+use Rattle.digits.proofs.Lists.{each-below}
 use Rattle.digits.proofs.Pack.{of-pack, fields-lt, pack-unpack}
-use Rattle.rules.specs.Kind.{word, wordBits, Bytes}
+use Rattle.rules.specs.Kind.{word, Bytes}
 use Rattle.rules.specs.Decimal.{Pair, exception, tried, back}
 use Rattle.rules.specs.Vector.{Raw, tries, standIn, filled, orElse, least, fieldsOf, widthOf, places, picks, rawOf, encoded, fields, wholes, marks, marked, decoded}
 use Rattle.rules.specs.Verdict.{Rows, row, _then_, fine, first, verdict, in-vector, in-vector-at, _below_}
 use Rattle.rules.specs.Examine.{unusedSet, isOther, strays, needless, unfilled, unlisted, standInOf, frameOff, widthOff, firstRows, rulesRows}
 use Rattle.rules.specs.Older.{vectorBy, valueRows}
 use Rattle.rules.proofs.Rows.{row-fine, row-first, first-passes, first-fine, first-end, is, isnt-false, same-number, not-other, or-false}
-use Rattle.rules.proofs.Order.{AtMost, least-below, least-one, width-holds}
+use Rattle.rules.proofs.Order.{least-one, width-holds}
 use Rattle.rules.proofs.Fields.{field-forth}
 use Rattle.rules.proofs.Tries.{Held, tried-some, none-excepted, tried-none}
 use Rattle.rules.proofs.Marks.{mark, marks-back, stored-nil, stored-here, stored-none, marks-skip}
@@ -230,11 +227,9 @@ module _ (fmt : Format) (p : Pair) where
       ]
 
 -- fields are the whole numbers less the frame
-gaps-are : (w : Width) (m : ℤ) → mag m < 2 ^ hbits w → (ds : List ℕ) → Each (λ (d : ℕ). d < 2 ^ bits w) ds
-    → Each (AtMost m) (map (λ (d : ℕ). toZ w ((ofZ w m + d) % 2 ^ bits w)) ds)
-    → map (λ (z : ℤ). natAbs (z -ℤ m)) (map (λ (d : ℕ). toZ w ((ofZ w m + d) % 2 ^ bits w)) ds) ≡ ds
-gaps-are w m h [] b k = refl
-gaps-are w m h (d ∷ ds) b k = ap₂ (λ (y : ℕ) (l : List ℕ). y ∷ l) (field-forth w m d h (b .0) (k .0)) (gaps-are w m h ds (b .1) (k .1))
+gaps-are : (m : ℤ) (ds : List ℕ) → map (λ (z : ℤ). natAbs (z -ℤ m)) (map (λ (d : ℕ). m +ℤ pos d) ds) ≡ ds
+gaps-are m [] = refl
+gaps-are m (d ∷ ds) = ap₂ (λ (y : ℕ) (l : List ℕ). y ∷ l) (field-forth m d) (gaps-are m ds)
 
 module _ (fmt : Format) (v : ℕ) (r : Raw) (fit : Fit fmt r) (sound : Sound fmt r) (bytes : Bytes (r .packed)) (pass : verdict (rulesRows fmt v r) ≡ fine) where
   abbrev ws : List ℤ
@@ -272,27 +267,12 @@ module _ (fmt : Format) (v : ℕ) (r : Raw) (fit : Fit fmt r) (sound : Sound fmt
         width = isnt-false (r .width) (widthOf ds) (f .1);
       }
 
-  ws-held : Each (Held fmt) ws
-  unfolding wholes
-  ws-held =
-      each-of-map (Held fmt) (λ (x : ℕ). toZ (word fmt) ((r .frame + x) % 2 ^ wordBits fmt)) ds
-      (each-all (λ (x : ℕ). Held fmt (toZ (word fmt) ((r .frame + x) % 2 ^ wordBits fmt)))
-      (λ x. sfits-toZ {w = word fmt} (fits-of-lt (mod-lt (r .frame + x) (pow-pos (wordBits fmt)))) .sfits) ds)
-
-  ds-below : Each (λ (x : ℕ). x < 2 ^ wordBits fmt) ds
-  unfolding fields
-  ds-below =
-      each-map (λ (x : ℕ). x < 2 ^ r .width) (λ (x : ℕ). x < 2 ^ wordBits fmt) (λ x h. lt-of-lt-of-le h (pow-mono (sound .width))) ds
-      (below-each (2 ^ r .width) ds (to-below (2 ^ r .width) (r .count) (number (r .packed)) (pow-pos (r .width))))
+  framed : toZ (word fmt) (r .frame) ≡ least ws
+  framed = ap (toZ (word fmt)) (shown .frame) ∙ toZ-ofZ (record { sfits = least-one (Held fmt) ws (pow-pos (hbits (word fmt))) (sound .held) })
 
   gaps : fieldsOf ws ≡ ds
   unfolding wholes fieldsOf
-  gaps =
-      let m : ℤ = least ws in
-      let g : ℕ → List ℤ = λ f. map (λ (x : ℕ). toZ (word fmt) ((f + x) % 2 ^ wordBits fmt)) ds in
-      let e : g (r .frame) ≡ g (ofZ (word fmt) m) = ap g (shown .frame) in
-      ap (map (λ (z : ℤ). natAbs (z -ℤ m))) e
-      ∙ gaps-are (word fmt) m (least-one (Held fmt) ws (pow-pos (hbits (word fmt))) ws-held) ds ds-below (subst (Each (AtMost m)) e (least-below ws))
+  gaps = ap (λ (m : ℤ). map (λ (z : ℤ). natAbs (z -ℤ m)) ws) (sym framed) ∙ gaps-are (toZ (word fmt) (r .frame)) ds
 
   packed-eq : pack (r .width) ds ≡ r .packed
   unfolding fields

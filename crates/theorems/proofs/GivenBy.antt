@@ -12,7 +12,7 @@ use Rattle.digits.specs.Lists.{Each}
 use Rattle.rules.specs.Decimal.{Pair}
 use Rattle.rules.specs.Vector.{Raw, wholes, marked}
 use Rattle.rules.specs.Page.{Meta, metaAt, rawsOf, sOf, offsetsOf, bodyOf, vectorSize}
-use Rattle.rules.specs.Read.{headRows, offsetsRow, metaRows, Listed, positionsRows, listRows, Cursor, here, next, start, vectorRows, vectorsRows, pageRows, readRows}
+use Rattle.rules.specs.Read.{headRows, offsetsRow, metaRows, Listed, positionsRows, sumsRows, payloadRows, Cursor, here, next, start, vectorRows, vectorsRows, pageRows, readRows}
 use Rattle.rules.specs.ReadVector.{numberRows, aloneRows, readVectorRows}
 use Rattle.rules.specs.Examine.{firstRows, rulesRows, allRulesRows, examineRows, strays, needless, unfilled, standInOf}
 use Rattle.rules.specs.Write.{pairsRows, settingsRows, pairsOf, writeRows}
@@ -20,10 +20,10 @@ use Rattle.rules.specs.Choose.{chooseRows}
 use Rattle.rules.specs.Calls.{among, given-by-chooser, given-by-measuring, given-by-writer, given-by-reader, given-by-vector-reader, given-by-examiner}
 use Rattle.theorems.proofs.Ordered.{Numbered}
 
--- ---- the reader's rows 1 to 13, then 14, for any list that has these numbers
+-- ---- the reader's rows 1 to 13 and 17, then 14, for any list that has these numbers
 
 abbrev layoutRows : List ℕ
-layoutRows = 1 ∷ 2 ∷ 3 ∷ 4 ∷ 5 ∷ 6 ∷ 7 ∷ 8 ∷ 9 ∷ 10 ∷ 11 ∷ 12 ∷ 13 ∷ []
+layoutRows = 1 ∷ 2 ∷ 3 ∷ 4 ∷ 5 ∷ 6 ∷ 7 ∷ 8 ∷ 9 ∷ 10 ∷ 11 ∷ 12 ∷ 13 ∷ 17 ∷ []
 
 -- a number of one list is a number of another that has all of it
 within : (ms ns : List ℕ) → Each (λ (a : ℕ). T (among a ns)) ms → (a : ℕ) → T (among a ms) → T (among a ns)
@@ -40,9 +40,14 @@ module _ (ns : List ℕ) (has : (a : ℕ) → T (among a layoutRows) → T (amon
   positions-numbered v n k [] = tt
   positions-numbered v n k (p ∷ ps) = (has 13 tt, positions-numbered v n (record { index = suc (k .index); low = suc p }) ps)
 
-  list-numbered : (fmt : Format) (v n : ℕ) (m : Meta) (bs : List ℕ) → Numbered ns (listRows fmt v n m bs)
-  unfolding listRows
-  list-numbered fmt v n m bs = positions-numbered v n (record { index = 0; low = 0 }) _
+  sums-numbered : (fmt : Format) (v i : ℕ) (zs : List ℤ) → Numbered ns (sumsRows fmt v i zs)
+  unfolding sumsRows
+  sums-numbered fmt v i [] = tt
+  sums-numbered fmt v i (z ∷ zs) = (has 17 tt, sums-numbered fmt v (suc i) zs)
+
+  payload-numbered : (fmt : Format) (v n : ℕ) (m : Meta) (bs : List ℕ) → Numbered ns (payloadRows fmt v n m bs)
+  unfolding payloadRows
+  payload-numbered fmt v n m bs = (positions-numbered v n (record { index = 0; low = 0 }) _, sums-numbered fmt v 0 _)
 
   meta-numbered : (fmt : Format) (v n : ℕ) (m : Meta) (bs : List ℕ) → Numbered ns (metaRows fmt v n m bs)
   unfolding metaRows
@@ -58,7 +63,7 @@ module _ (ns : List ℕ) (has : (a : ℕ) → T (among a layoutRows) → T (amon
 
   vector-numbered : (fmt : Format) (size : ℕ) (c : Cursor) (o : ℕ) (m : Meta) (bs : List ℕ) → Numbered ns (vectorRows fmt size c o m bs)
   unfolding vectorRows
-  vector-numbered fmt size c o m bs = (has 8 tt, (meta-numbered fmt (c .vector) (here size c) m bs, list-numbered fmt (c .vector) (here size c) m bs))
+  vector-numbered fmt size c o m bs = (has 8 tt, (meta-numbered fmt (c .vector) (here size c) m bs, payload-numbered fmt (c .vector) (here size c) m bs))
 
   module _ (has-14 : T (among 14 ns)) where
     vectors-numbered : (fmt : Format) (size : ℕ) (c : Cursor) (os bs : List ℕ) → Numbered ns (vectorsRows fmt size c os bs)
@@ -76,14 +81,14 @@ module _ (ns : List ℕ) (has : (a : ℕ) → T (among a layoutRows) → T (amon
 
 pub reader-numbered : (fmt : Format) (room : ℕ) (bs : List ℕ) → Numbered given-by-reader (readRows fmt room bs)
 unfolding readRows
-reader-numbered fmt room bs = (page-numbered given-by-reader (within layoutRows given-by-reader (tt, (tt, (tt, (tt, (tt, (tt, (tt, (tt, (tt, (tt, (tt, (tt, (tt, tt)))))))))))))) tt fmt bs, tt)
+reader-numbered fmt room bs = (page-numbered given-by-reader (within layoutRows given-by-reader (tt, (tt, (tt, (tt, (tt, (tt, (tt, (tt, (tt, (tt, (tt, (tt, (tt, (tt, tt))))))))))))))) tt fmt bs, tt)
 
 pub vector-reader-numbered : (fmt : Format) (v room : ℕ) (bs : List ℕ) → Numbered given-by-vector-reader (readVectorRows fmt v room bs)
 unfolding readVectorRows numberRows aloneRows
 vector-reader-numbered fmt v room bs =
     let ns = given-by-vector-reader in
-    let has = within layoutRows ns (tt, (tt, (tt, (tt, (tt, (tt, (tt, (tt, (tt, (tt, (tt, (tt, (tt, tt))))))))))))) in
-    ((head-numbered ns has bs, (tt, offsets-numbered ns has bs)), ((tt, (meta-numbered ns has fmt v _ _ _, (tt, list-numbered ns has fmt v _ _ _))), tt))
+    let has = within layoutRows ns (tt, (tt, (tt, (tt, (tt, (tt, (tt, (tt, (tt, (tt, (tt, (tt, (tt, (tt, tt)))))))))))))) in
+    ((head-numbered ns has bs, (tt, offsets-numbered ns has bs)), ((tt, (meta-numbered ns has fmt v _ _ _, (tt, payload-numbered ns has fmt v _ _ _))), tt))
 
 first-numbered : (ns : List ℕ) (a : ℕ) → T (among a ns) → (v : ℕ) (at-fault : ℤ → Option ℕ → Bool) (i : ℕ) (zs : List ℤ) (ms : List (Option ℕ)) → Numbered ns (firstRows a v at-fault i zs ms)
 unfolding firstRows
@@ -106,7 +111,7 @@ all-rules-numbered fmt v (r ∷ rs) = (rules-numbered fmt v r, all-rules-numbere
 
 pub examiner-numbered : (fmt : Format) (bs : List ℕ) → Numbered given-by-examiner (examineRows fmt bs)
 unfolding examineRows
-examiner-numbered fmt bs = (page-numbered given-by-examiner (within layoutRows given-by-examiner (tt, (tt, (tt, (tt, (tt, (tt, (tt, (tt, (tt, (tt, (tt, (tt, (tt, tt)))))))))))))) tt fmt bs, all-rules-numbered fmt 0 (rawsOf fmt bs))
+examiner-numbered fmt bs = (page-numbered given-by-examiner (within layoutRows given-by-examiner (tt, (tt, (tt, (tt, (tt, (tt, (tt, (tt, (tt, (tt, (tt, (tt, (tt, (tt, tt))))))))))))))) tt fmt bs, all-rules-numbered fmt 0 (rawsOf fmt bs))
 
 pairs-numbered : (ns : List ℕ) → T (among 9 ns) → T (among 10 ns) → (fmt : Format) (v : ℕ) (ps : List Pair) → Numbered ns (pairsRows fmt v ps)
 unfolding pairsRows

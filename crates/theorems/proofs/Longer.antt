@@ -16,10 +16,10 @@ use Rattle.digits.specs.Digits.{number, numbers, packedSize}
 use Rattle.digits.proofs.Rows.{length-numbers}
 use Rattle.rules.specs.Kind.{minS, maxValues, maxExponent, wordBits, wordBytes, metaBytes, Values}
 use Rattle.rules.specs.Decimal.{Pair}
-use Rattle.rules.specs.Vector.{Raw}
+use Rattle.rules.specs.Vector.{Raw, wholes}
 use Rattle.rules.specs.Page.{Meta, vectors, vectorSize, pageOf, sOf, countOf, vectorsOf, offsetsOf, bodyOf, metaAt, rawFrom, rawsOf}
-use Rattle.rules.specs.Verdict.{Verdict, fine, refuse, first, verdict, row, the-page, in-vector, _below_, _above_, _isnt_, settle, answer, after}
-use Rattle.rules.specs.Read.{headRows, offsetsRow, metaRows, positionsRows, listRows, Cursor, here, next, start, vectorRows, vectorsRows, pageRows, valuesOf, readOf, readRows}
+use Rattle.rules.specs.Verdict.{_then_, Verdict, fine, refuse, first, verdict, row, the-page, in-vector, _below_, _above_, _isnt_, settle, answer, after}
+use Rattle.rules.specs.Read.{headRows, offsetsRow, metaRows, positionsRows, sumsRows, payloadRows, Cursor, here, next, start, vectorRows, vectorsRows, pageRows, valuesOf, readOf, readRows}
 use Rattle.rules.specs.Examine.{allRulesRows, examineRows, examineOf}
 use Rattle.rules.specs.Write.{Inside, bound}
 use Rattle.rules.proofs.Rows.{row-fine, first-fine, first-as}
@@ -150,9 +150,10 @@ module _ (fmt : Format) (v n : ℕ) (m : Meta) (part behind : List ℕ) (long : 
           let s : vectorSize fmt n m ≤ length part = le-trans (size-most fmt n m (ltb-false n (m .listed) f) (ltb-false (wordBits fmt) (m .width) h)) long in
           rw (le-ltb (length (part ++ behind)) (vectorSize fmt n m) (le-trans s (longer part behind)), le-ltb (length part) (vectorSize fmt n m) s)
 
-  list-rows-same : vectorSize fmt n m ≤ length part → verdict (listRows fmt v n m (part ++ behind)) ≡ verdict (listRows fmt v n m part)
-  unfolding listRows
-  list-rows-same s = ap (λ (r : Raw). verdict (positionsRows v n (record { index = 0; low = 0 }) (r .positions))) (raw-same fmt n m part behind s)
+  payload-rows-same : vectorSize fmt n m ≤ length part → verdict (payloadRows fmt v n m (part ++ behind)) ≡ verdict (payloadRows fmt v n m part)
+  unfolding payloadRows
+  payload-rows-same s =
+      ap (λ (r : Raw). verdict (positionsRows v n (record { index = 0; low = 0 }) (r .positions) then sumsRows fmt v 0 (wholes fmt r))) (raw-same fmt n m part behind s)
 
 vector-rows-same : (fmt : Format) (size : ℕ) (c : Cursor) (o : ℕ) (m : Meta) (part behind : List ℕ) → most fmt (here size c) ≤ length part
     → verdict (vectorRows fmt size c o m (part ++ behind)) ≡ verdict (vectorRows fmt size c o m part)
@@ -161,9 +162,9 @@ vector-rows-same fmt size c o m part behind long =
     let v : ℕ = c .vector in
     let n : ℕ = here size c in
     let r8 : Verdict = verdict (row 8 (in-vector v) (o isnt c .offset)) in
-    let l : Verdict = verdict (listRows fmt v n m (part ++ behind)) in
+    let l : Verdict = verdict (payloadRows fmt v n m (part ++ behind)) in
     ap (λ (x : Verdict). first r8 (first x l)) (meta-rows-same fmt v n m part behind long)
-    ∙ ap (first r8) (first-as (verdict (metaRows fmt v n m part)) l (verdict (listRows fmt v n m part)) (λ e. list-rows-same fmt v n m part behind long (meta-fine fmt v n m part e .whole)))
+    ∙ ap (first r8) (first-as (verdict (metaRows fmt v n m part)) l (verdict (payloadRows fmt v n m part)) (λ e. payload-rows-same fmt v n m part behind long (meta-fine fmt v n m part e .whole)))
 
 -- ---- all vectors
 
@@ -321,7 +322,7 @@ module _ (fmt : Format) (front : List ℕ) (long : longest fmt < length front) w
         )
         (ap (first (verdict (offsetsRow front))) (vectors-same fmt (2 ^ sOf front) (start front) (offsetsOf front) (bodyOf front) behind body-long))
 
--- rows 1 to 14 refuse it, and its first bytes decide by which
+-- rows 1 to 14 or 17 refuse it, and its first bytes decide by which
 pub longer-is-refused : (fmt : Format) (bs : List ℕ) → longest fmt < length bs → verdict (pageRows fmt bs) ≡ fine → ⊥
 longer-is-refused fmt bs long ok = let h = passing-is-short fmt bs ok in omega arith
 

@@ -16,7 +16,7 @@ use Rattle.rules.specs.Kind.{metaBytes}
 use Rattle.rules.specs.Vector.{Raw, decoded}
 use Rattle.rules.specs.Page.{Meta, vectorSize, metaAt, rawFrom, rawsFrom, rawsOf, sOf, countOf, vectorsOf, offsetsOf, bodyOf}
 use Rattle.rules.specs.Verdict.{fine, verdict, the-page, in-vector, _above_, _isnt_, done}
-use Rattle.rules.specs.Read.{offsetsRow, metaRows, listRows, Cursor, here, next, start, vectorRows, vectorsRows, pageRows, valuesOf, readOf}
+use Rattle.rules.specs.Read.{offsetsRow, metaRows, payloadRows, Cursor, here, next, start, vectorRows, vectorsRows, pageRows, valuesOf, readOf}
 use Rattle.rules.specs.ReadVector.{valuesIn, spanOf, partFrom, numberRows, aloneRows, readVectorRows, vectorValues, readVectorOf}
 use Rattle.rules.proofs.Pages.{Cut}
 use Rattle.rules.proofs.Rows.{row-fine, row-first, first-fine, is, isnt-false}
@@ -58,7 +58,7 @@ module _ (fmt : Format) (size : ℕ) where
 -- last byte, and it is what the reader reads at its place
 pub record Lies (fmt : Format) (size : ℕ) (c : Cursor) (os bs : List ℕ) (v w n : ℕ) (part : List ℕ) (d : Raw) : Type 0 where
   pub meta : verdict (metaRows fmt w n (metaAt fmt part) part) ≡ fine
-  pub list : verdict (listRows fmt w n (metaAt fmt part) part) ≡ fine
+  pub payload : verdict (payloadRows fmt w n (metaAt fmt part) part) ≡ fine
   pub ends-next : suc v < length os → getD os v 0 + vectorSize fmt n (metaAt fmt part) ≡ getD os (suc v) 0
   pub ends-last : length os ≤ suc v → getD os v 0 + vectorSize fmt n (metaAt fmt part) ≡ c .offset + length bs
   pub raw : getD (rawsFrom fmt size (c .left) os bs) v d ≡ rawFrom fmt n (metaAt fmt part) (drop (metaBytes fmt) part)
@@ -86,7 +86,7 @@ module _ (fmt : Format) (size : ℕ) (d : Raw) where
     k = vectorSize fmt (here size c) m
 
     passing : (os : List ℕ) → verdict (vectorsRows fmt size c (o ∷ os) bs) ≡ fine
-        → (o ≡ c .offset) × (verdict (metaRows fmt (c .vector) (here size c) m bs) ≡ fine) × (verdict (listRows fmt (c .vector) (here size c) m bs) ≡ fine)
+        → (o ≡ c .offset) × (verdict (metaRows fmt (c .vector) (here size c) m bs) ≡ fine) × (verdict (payloadRows fmt (c .vector) (here size c) m bs) ≡ fine)
         × (verdict (vectorsRows fmt size (next fmt size c m) os (drop k bs)) ≡ fine)
     unfolding vectorsRows vectorRows
     passing os ok =
@@ -116,7 +116,7 @@ module _ (fmt : Format) (size : ℕ) (d : Raw) where
 
     first-lies : (os : List ℕ) → verdict (vectorsRows fmt size c (o ∷ os) bs) ≡ fine → Lies fmt size c (o ∷ os) bs 0 (c .vector) (here size c) bs d
     unfolding rawsFrom
-    first-lies os ok = record { meta = passing c o bs os ok .1; list = passing c o bs os ok .2; ends-next = first-next os ok; ends-last = first-last os ok; raw = refl }
+    first-lies os ok = record { meta = passing c o bs os ok .1; payload = passing c o bs os ok .2; ends-next = first-next os ok; ends-last = first-last os ok; raw = refl }
 
   pub lies : (c : Cursor) (os bs : List ℕ) (v w n : ℕ) (part : List ℕ) → w ≡ c .vector + v → n ≡ min size (c .left - v * size) → part ≡ drop (getD os v 0 - c .offset) bs
       → v < length os → verdict (vectorsRows fmt size c os bs) ≡ fine → Lies fmt size c os bs v w n part d
@@ -137,7 +137,7 @@ module _ (fmt : Format) (size : ℕ) (d : Raw) where
       let u = lies (next fmt size c (metaAt fmt bs)) os (drop k bs) v w n part (omega (arith, ew)) (en ∙ omega (arith, suc-mul v size)) there (le-of-suc-le-suc h) (p .3) in
       record {
         meta = u .meta;
-        list = u .list;
+        payload = u .payload;
         ends-next = λ l. u .ends-next (le-of-suc-le-suc l);
         ends-last = λ l. u .ends-last (le-of-suc-le-suc l) ∙ omega (arith, length-drop k bs, inside c o bs os ok);
         raw = u .raw;
@@ -208,7 +208,7 @@ module _ (fmt : Format) (room : ℕ) (bs vs : List ℕ) (e : readOf fmt room bs 
         le-ltb (spanOf bs v .from) (4 * vectorsOf bs) starts-behind,
         it-lies .meta,
         is (spanOf bs v .from + vectorSize fmt (valuesIn bs v) (metaAt fmt part)) (spanOf bs v .to) ends,
-        it-lies .list,
+        it-lies .payload,
         le-ltb lent (valuesIn bs v) fits,
       )
 
