@@ -8,6 +8,8 @@ use Rattle.digits.proofs.Windows.{one-shl}
 use Rattle.digits.specs.Digits.{packedSize}
 use Rattle.rules.specs.Kind.{maxS, metaBytes, wordBytes}
 use Rattle.rules.specs.Page.{Meta, vectorSize}
+use mathlib.Core.List.{List}
+use lib.ListN.{length, take, drop, length-take, length-drop}
 use lib.Ieee.{Format}
 
 -- products stay small
@@ -30,3 +32,8 @@ few-vectors n size h =
 -- the positions of a vector end inside it
 pub positions-fit : (fmt : Format) (n : ℕ) (m : Meta) → metaBytes fmt + packedSize n (m .width) + 2 * m .listed ≤ vectorSize fmt n m
 positions-fit fmt n m = omega (arith, small (m .listed) 2 {c = m .listed} {d = 2 + wordBytes fmt} (omega arith) (omega arith))
+
+-- the packed part of a vector that is all there holds its fields
+pub packed-holds : (fmt : Format) (n : ℕ) (m : Meta) (part : List ℕ) → vectorSize fmt n m ≤ length part → (start cut : ℕ) → start ≡ metaBytes fmt → cut ≡ packedSize n (m .width)
+    → n * m .width ≤ 8 * length (take cut (drop start part))
+packed-holds fmt n m part whole start cut es ec = rw (length-take, length-drop) (omega (arith, es, ec, whole))

@@ -11,7 +11,7 @@ use Rattle.rules.specs.Kind.{minS, maxS, maxValues, maxExponent, wordBits, meta
 use Rattle.rules.specs.Page.{versionOf, modeOf, encodingOf, sOf, countOf, vectorsOf, vectorSize, metaAt}
 use Rattle.rules.specs.Page as page
 use Rattle.rules.specs.Verdict.{Rows, row, _then_, Verdict, fine, refuse, first, verdict, settle, answer, after, the-page, in-vector, _above_, _below_, _isnt_}
-use Rattle.rules.specs.Read.{headRows, offsetsRow, metaRows, listRows, Cursor, here, vectorRows}
+use Rattle.rules.specs.Read.{headRows, offsetsRow, metaRows, payloadRows, Cursor, here, vectorRows}
 use Rattle.rules.specs.Decimal.{Pair}
 use Rattle.rules.specs.Write.{pairsRows}
 use Rattle.rules.specs.declared.Answer.{Answer}
@@ -161,8 +161,8 @@ pub offset-passes : (v o laid : ℕ) → o ≡ laid → fine ≡ verdict (row 8 
 offset-passes v o laid h = rw (eq-eqb o laid h)
 
 pub vector-is : (fmt : Format) (size : ℕ) (c : Cursor) (o n : ℕ) (m : page.Meta) (bs : List ℕ) → n ≡ here size c
-    → first (first (verdict (row 8 (in-vector (c .vector)) (o isnt c .offset))) (verdict (metaRows fmt (c .vector) n m bs))) (verdict (listRows fmt (c .vector) n m bs)) ≡ verdict (vectorRows fmt size c o m bs)
+    → first (first (verdict (row 8 (in-vector (c .vector)) (o isnt c .offset))) (verdict (metaRows fmt (c .vector) n m bs))) (verdict (payloadRows fmt (c .vector) n m bs)) ≡ verdict (vectorRows fmt size c o m bs)
 unfolding vectorRows
 vector-is fmt size c o n m bs e =
-    first-first (verdict (row 8 (in-vector (c .vector)) (o isnt c .offset))) (verdict (metaRows fmt (c .vector) n m bs)) (verdict (listRows fmt (c .vector) n m bs))
-    ∙ ap (λ (x : ℕ). first (verdict (row 8 (in-vector (c .vector)) (o isnt c .offset))) (first (verdict (metaRows fmt (c .vector) x m bs)) (verdict (listRows fmt (c .vector) x m bs)))) e
+    first-first (verdict (row 8 (in-vector (c .vector)) (o isnt c .offset))) (verdict (metaRows fmt (c .vector) n m bs)) (verdict (payloadRows fmt (c .vector) n m bs))
+    ∙ ap (λ (x : ℕ). first (verdict (row 8 (in-vector (c .vector)) (o isnt c .offset))) (first (verdict (metaRows fmt (c .vector) x m bs)) (verdict (payloadRows fmt (c .vector) x m bs)))) e

@@ -15,7 +15,7 @@ use Rattle.digits.proofs.Rows.{numbers-at, numbers-start, numbers-end}
 use Rattle.rules.specs.Kind.{metaBytes}
 use Rattle.rules.specs.Page.{Meta, sOf, countOf, vectorsOf, offsetsOf, bodyOf, vectorSize, metaAt, rawFrom, rawsFrom, rawsOf}
 use Rattle.rules.specs.Verdict.{Rows, row, Verdict, fine, refuse, first, verdict, the-page, in-vector-at, _above_, _below_}
-use Rattle.rules.specs.Read.{start, positionsRows, listRows, vectorRows, vectorsRows, pageRows}
+use Rattle.rules.specs.Read.{start, positionsRows, vectorRows, vectorsRows, pageRows}
 use Rattle.rules.specs.Vector.{Raw}
 use Rattle.rules.proofs.Rows.{first-fine}
 use Rattle.rules.proofs.Reading.{Passed, vector-fine, page-fine}
@@ -55,10 +55,10 @@ pub positions-start : (part : List ℕ) (at listed v n : ℕ)
 positions-start part at listed v n = ap (λ (x : List ℕ). verdict (positionsRows v n no-position x)) (numbers-start 2 listed at part)
 
 -- where the positions of a vector stand
-pub list-is : (fmt : Format) (v n : ℕ) (m : Meta) (bs : List ℕ)
-    → positionsRows v n no-position (numbers 2 (m .listed) (drop (metaBytes fmt + packedSize n (m .width)) bs)) ≡ listRows fmt v n m bs
-unfolding listRows rawFrom
-list-is fmt v n m bs = ap (λ (x : List ℕ). positionsRows v n no-position (numbers 2 (m .listed) x)) (sym (drop-drop (packedSize n (m .width)) (metaBytes fmt) bs))
+pub list-is : (fmt : Format) (n : ℕ) (m : Meta) (bs : List ℕ)
+    → numbers 2 (m .listed) (drop (metaBytes fmt + packedSize n (m .width)) bs) ≡ rawFrom fmt n m (drop (metaBytes fmt) bs) .positions
+unfolding rawFrom
+list-is fmt n m bs = ap (numbers 2 (m .listed)) (sym (drop-drop (packedSize n (m .width)) (metaBytes fmt) bs))
 
 -- ---- the vectors, then row 14
 

@@ -2,8 +2,10 @@
 use Prim.Native.Nat.{ℕ, _^_, _<_}
 use mathlib.Core.Path.{_≡_}
 use mathlib.Core.List.{List}
+use lib.ListN.{drop}
 use lib.Ieee.{Format, binary32, binary64}
-use Rattle.rules.specs.Kind.{maxExponent, wordBits}
+use Rattle.rules.specs.Kind.{maxExponent, wordBits, metaBytes}
+use Rattle.rules.specs.Vector.{Raw}
 use Rattle.rules.specs.Page as page
 use Rattle.rules.specs.Read as read
 use Rattle.rules.specs.Verdict.{Rows, row, _then_, Verdict, fine, refuse, in-vector, _above_}
@@ -34,6 +36,10 @@ pub record FoundMeta (fmt : Format) (bs : List ℕ) (m : Meta) : Type 0 where
   pub listed : m .listed < 256 ^ 2
   pub frame : m .frame < 2 ^ wordBits fmt
   pub width : m .width < 256
+
+-- the vector of n values at the front of bs
+abbrev pub rawAt : Format → ℕ → List ℕ → Raw
+rawAt fmt n bs = page.rawFrom fmt n (page.metaAt fmt bs) (drop (metaBytes fmt) bs)
 
 abbrev pub asCursor : Cursor → read.Cursor
 asCursor c = record { vector = c .vector; offset = c .offset; left = c .left }

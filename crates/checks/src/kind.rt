@@ -1,7 +1,8 @@
 // The two float kinds, and the numbers of each. Every number has its bound beside it, so that no caller goes by cases.
 ghost use mathlib.Core.Path.{_≡_};
-ghost use Prim.Native.Nat.{_≤_};
-ghost use Rattle.rules.specs.Kind.{wordBytes, wordBits, maxExponent, metaBytes};
+ghost use Prim.Native.Nat.{_^_, _≤_, _<_};
+ghost use mir.Val.{hbits};
+ghost use Rattle.rules.specs.Kind.{word, wordBytes, wordBits, maxExponent, metaBytes};
 ghost use Rattle.checks.specs.Forms.{formatOf};
 
 pub enum Kind {
@@ -26,6 +27,16 @@ pub fn largest_width(kind: Kind) -> usize
     match kind {
         Kind::Single => 32,
         Kind::Double => 64,
+    }
+}
+
+// 2^(W - 1): a signed word goes from minus this to one below it.
+pub fn half_range(kind: Kind) -> u64
+    ensures { λ r. ⌜ (r ≡ 2 ^ hbits (word (formatOf kind))) × (0 < r) × (r ≤ 2 ^ 63) ⌝ }
+{
+    match kind {
+        Kind::Single => 0x8000_0000,
+        Kind::Double => 0x8000_0000_0000_0000,
     }
 }
 

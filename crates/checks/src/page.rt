@@ -59,7 +59,7 @@ pub fn check_vectors(page: &[u8], kind: Kind) -> Check
     Check::Fine
 }
 
-// Rows 1 to 14, of any bytes.
+// Rows 1 to 14 and 17, of any bytes.
 pub fn check_page(page: &[u8], kind: Kind) -> Check
     ensures { λ r. ⌜ asVerdict r ≡ verdict (pageRows (formatOf kind) (now (page .entry))) ⌝ }
 {

@@ -1,8 +1,9 @@
-// One vector at the front of a part of a page: its metadata, and rows 8, 7 for metadata, 9 to 12, 7 for data, 13.
+// One vector at the front of a part of a page: its metadata, and rows 8, 7 for metadata, 9 to 12, 7 for data, 13, 17.
 use crate::check::Check;
 use crate::check::first_of;
 use crate::check::refuses;
 use crate::kind::Kind;
+use crate::kind::half_range;
 use crate::kind::largest_exponent;
 use crate::kind::largest_width;
 use crate::kind::meta_bytes;
@@ -14,17 +15,23 @@ use crate::sizes::wide;
 use bits::numbers::read_u16;
 use bits::numbers::read_u32;
 use bits::numbers::read_u64;
+use bits::windows::first_above;
 use rules::Exponent;
 use rules::Factor;
 ghost use mathlib.Core.Path.{_≡_};
-ghost use Prim.Native.Nat.{_+_, _*_, _^_, _≤_, _<_};
+ghost use Prim.Native.Nat.{ℕ, _+_, _*_, _^_, _≤_, _<_};
 ghost use lib.ListN.{length, take, drop};
+ghost use lib.Dec.{ltb};
+ghost use lib.IntN.{pos, _+ℤ_};
+ghost use mir.Val.{toZ};
 ghost use Rattle.digits.specs.Digits.{number, numbers};
-ghost use Rattle.rules.specs.Kind.{maxS, metaBytes, wordBytes, wordBits};
-ghost use Rattle.rules.specs.Page.{vectorSize, metaAt};
+ghost use Rattle.rules.specs.Kind.{maxS, metaBytes, word, wordBytes, wordBits};
+ghost use Rattle.rules.specs.Vector.{wholes};
+ghost use Rattle.rules.specs.Page.{metaAt};
 ghost use Rattle.rules.specs.Verdict.{verdict, row, in-vector, _isnt_};
-ghost use Rattle.rules.specs.Read.{metaRows, positionsRows, listRows, here, vectorRows};
-ghost use Rattle.checks.specs.Forms.{formatOf, asVerdict, asCursor, FoundMeta, pairRows, no-position};
+ghost use Rattle.rules.specs.Read.{metaRows, positionsRows, outOfRange, sumsRows, payloadRows, here, vectorRows};
+ghost use Rattle.rules.proofs.Reading.{MetaPassed};
+ghost use Rattle.checks.specs.Forms.{formatOf, asVerdict, asCursor, FoundMeta, pairRows, rawAt, no-position};
 
 // A vector's metadata.
 pub struct Meta {
@@ -141,15 +148,55 @@ fn check_positions(part: &[u8], at: usize, listed: usize, v: usize, n: usize) ->
 }
 
 // Row 13 of vector v, whose bytes are all there.
-pub fn check_list(part: &[u8], kind: Kind, v: usize, n: usize) -> Check
-    requires { ⌜ (n ≤ 2 ^ maxS) × (vectorSize (formatOf kind) n (metaAt (formatOf kind) (now part)) ≤ length (now part)) ⌝ }
-    ensures { λ r. ⌜ asVerdict r ≡ verdict (listRows (formatOf kind) v n (metaAt (formatOf kind) (now (part .entry))) (now (part .entry))) ⌝ }
+fn check_list(part: &[u8], kind: Kind, v: usize, n: usize) -> Check
+    requires { ⌜ (n ≤ 2 ^ maxS) × MetaPassed (formatOf kind) n (metaAt (formatOf kind) (now part)) (now part) ⌝ }
+    ensures { λ r. ⌜ asVerdict r ≡ verdict (positionsRows v n no-position (rawAt (formatOf kind) n (now (part .entry)) .positions)) ⌝ }
 {
     let m = meta_at(part, kind);
     let listed = m.listed;
     let front = meta_bytes(kind);
     let packed = packed_size(n, m.width);
     check_positions(part, front + packed, listed, v, n)
+}
+
+// How far above the frame the kind's signed range goes: the largest field with which the sum stays inside.
+fn headroom(kind: Kind, frame: u64) -> u64
+    requires { ⌜ frame < 2 ^ wordBits (formatOf kind) ⌝ }
+    ensures { λ r. ⌜ ((d : ℕ) → outOfRange (formatOf kind) (toZ (word (formatOf kind)) frame +ℤ pos d) ≡ ltb r d) ⌝ }
+{
+    let half = half_range(kind);
+    if frame < half {
+        (half - 1) - frame
+    } else {
+        (half - 1) - (frame - half) + half
+    }
+}
+
+// Row 17 of vector v, whose bytes are all there.
+fn check_sums(part: &[u8], kind: Kind, v: usize, n: usize) -> Check
+    requires { ⌜ (n ≤ 2 ^ maxS) × MetaPassed (formatOf kind) n (metaAt (formatOf kind) (now part)) (now part) ⌝ }
+    ensures { λ r. ⌜ asVerdict r ≡ verdict (sumsRows (formatOf kind) v 0 (wholes (formatOf kind) (rawAt (formatOf kind) n (now (part .entry))))) ⌝ }
+{
+    let m = meta_at(part, kind);
+    let width = m.width;
+    let front = meta_bytes(kind);
+    let behind = front + packed_size(n, width);
+    let most = headroom(kind, m.frame);
+    let i = first_above(&part[front..behind], width, n, most);
+    if i < n {
+        return refuses(17, v, i);
+    }
+    Check::Fine
+}
+
+// Rows 13 and 17 of vector v, whose metadata's rows pass.
+pub fn check_payload(part: &[u8], kind: Kind, v: usize, n: usize) -> Check
+    requires { ⌜ (n ≤ 2 ^ maxS) × MetaPassed (formatOf kind) n (metaAt (formatOf kind) (now part)) (now part) ⌝ }
+    ensures { λ r. ⌜ asVerdict r ≡ verdict (payloadRows (formatOf kind) v n (metaAt (formatOf kind) (now (part .entry))) (now (part .entry))) ⌝ }
+{
+    let listed = check_list(part, kind, v, n);
+    let summed = check_sums(part, kind, v, n);
+    first_of(listed, summed)
 }
 
 // Row 8: the offset that the page has for vector v, and the layout's.
@@ -170,7 +217,7 @@ pub fn values_here(size: usize, cursor: Cursor) -> usize
     least(size, left)
 }
 
-// Rows 8, 7 for metadata, 9 to 12, 7 for data, 13, of the vector at the cursor, for which the page has this offset. The metadata's rows
+// Rows 8, 7 for metadata, 9 to 12, 7 for data, 13, 17, of the vector at the cursor, for which the page has this offset. The metadata's rows
 // can be worked out of any bytes, so row 8 need not be asked first to come first.
 pub fn check_vector(part: &[u8], kind: Kind, size: usize, cursor: Cursor, offset: usize) -> Check
     requires { ⌜ size ≤ 2 ^ maxS ⌝ }
@@ -187,5 +234,5 @@ pub fn check_vector(part: &[u8], kind: Kind, size: usize, cursor: Cursor, offset
         }
         Check::Fine => {}
     }
-    check_list(part, kind, v, n)
+    check_payload(part, kind, v, n)
 }

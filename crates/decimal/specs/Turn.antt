@@ -21,6 +21,7 @@ abbrev pub asTry32 : Turned32 → Option ℤ
 asTry32 (T32.Whole z) = some z
 asTry32 T32.Exception = none
 
--- the reading rule at a place that is not listed: frame plus field, modulo 2^W, read as signed and brought back
+-- what the code makes of a frame and a field: the words' sum, modulo 2^W, read as signed and brought back. Where the signed range holds frame
+-- plus field, that is the reading rule (proofs/Turns, `turned-fields`)
 abbrev pub turned : Format → Pair → ℕ → ℕ → ℕ
 turned fmt p frame field = back fmt p (toZ (word fmt) ((frame + field) % 2 ^ wordBits fmt))

@@ -47,7 +47,7 @@ pub fn back32(word: u32, scale: Scale32) -> u32
     f32::to_bits(two_products32(nearest_float32(word), scale.up_f, scale.down_e))
 }
 
-// The reading rule at one place: frame plus field, modulo 2^W, read as signed and brought back.
+// The reading rule at one place whose sum is known to stay in the signed range (row 17): so the words may be added modulo 2^W.
 pub fn value_of64(frame: u64, field: u64, scale: Scale64) -> u64
     requires { ⌜ Scales64 scale ⌝ }
     ensures { λ r. ⌜ r ≡ turned binary64 (pair64 scale) frame field ⌝ }

@@ -4,7 +4,7 @@ use mathlib.Core.List.{List, _∷_, map}
 use Prim.Native.Nat.{ℕ, _+_, _-_, _*_, _≤_, _<_}
 use native.Mathlib.Nat.{mul-comm}
 use native.Mathlib.Omega.{arith}
-use lib.ListN.{length, take, drop, set, length-set, length-take, length-drop}
+use lib.ListN.{length, take, drop, set, length-set}
 use lib.Seq.{drop-drop}
 use lib.Ieee.{Format}
 use Rattle.digits.specs.Digits.{number, numbers, packedSize, unpack}
@@ -22,6 +22,7 @@ use Rattle.rules.proofs.Decoded.{decoded-replaced}
 use Rattle.decimal.specs.Turn.{turned}
 use Rattle.decimal.proofs.Turns.{turned-fields}
 use Rattle.checks.specs.Forms.{asMeta}
+use Rattle.checks.proofs.Bounds as bounds
 use Rattle.checks.specs.declared.vector.Meta.{Meta}
 use Rattle.decode.specs.Readable.{Readable, valuesAt}
 
@@ -95,7 +96,7 @@ module _ (fmt : Format) (n : ℕ) (part : List ℕ) (m : Meta) (q : Readable fmt
   packed-inside behind e = omega (arith, e, readable .whole)
 
   pub packed-holds : (start cut : ℕ) → start ≡ metaBytes fmt → cut ≡ packedSize n (m .width) → n * m .width ≤ 8 * length (take cut (drop start part))
-  packed-holds start cut es ec = let w = readable .whole in rw (length-take, length-drop) (omega (arith, es, ec, w))
+  packed-holds = bounds.packed-holds fmt n (asMeta m) part (readable .whole)
 
   -- and so are its listed values
   pub listed-inside : (behind : ℕ) → behind ≡ front → behind + m .listed * (2 + wordBytes fmt) ≤ length part
@@ -134,7 +135,7 @@ module _ (fmt : Format) (n : ℕ) (part : List ℕ) (m : Meta) (q : Readable fmt
 
     turned-are : ts ≡ map (back fmt (raw .pair)) (wholes fmt raw)
     unfolding raw rawFrom
-    turned-are = et ∙ ap₂ (λ (x : Pair) (y : List ℕ). map (turned fmt x (m .frame)) y) ep fields-are ∙ turned-fields fmt raw
+    turned-are = et ∙ ap₂ (λ (x : Pair) (y : List ℕ). map (turned fmt x (m .frame)) y) ep fields-are ∙ turned-fields fmt raw (q .found .frame) (readable .held)
 
     pub values-are : end ≡ valuesAt fmt n part
     unfolding raw

@@ -6,11 +6,11 @@ use Prim.Native.Nat.{ℕ, zero, suc, _+_, _*_, _^_, _≤_, _<_}
 use native.Mathlib.Nat.{not-suc-le-zero, le-of-suc-le-suc, le-trans}
 use native.Mathlib.Omega.{arith}
 use lib.ListN.{length, getD, length-map, replicate}
-use lib.Dec.{T, lit≤}
+use lib.Dec.{T}
 use lib.IntN.{ℤ, pos, natAbs, _-ℤ_}
 use lib.Signed.{leZ, _≤ℤ_}
 use lib.Pow.{pow-pos}
-use lib.Ieee.{Format, binary32, binary64, size}
+use lib.Ieee.{Format, size}
 use mir.Val.{toZ, ofZ, SFits}
 use mir.ValLaws.{toZ-ofZ}
 use Rattle.digits.specs.Digits.{number, Below, pack, packedSize}
@@ -22,7 +22,7 @@ use Rattle.rules.specs.Decimal.{Pair, tried}
 use Rattle.rules.specs.Vector.{tries, standIn, filled, orElse, least, fieldsOf, widthOf}
 use Rattle.rules.proofs.Order.{AtMost, least-below, width-holds, width-fewest}
 use Rattle.rules.proofs.Vectors.{length-fields}
-use Rattle.rules.proofs.Encoded.{length-filled, fields-below}
+use Rattle.rules.proofs.Encoded.{small-word, length-filled, fields-below}
 use Rattle.encode.specs.Vectors.{Short, fieldsIn}
 
 each-get : {A : Type 0} (P : A → Type 0) (xs : List A) (i : ℕ) (d : A) → Each P xs → i < length xs → P (getD xs i d)
@@ -34,10 +34,6 @@ getD-map : {A B : Type 0} (f : A → B) (l : List A) (i : ℕ) (d : A) (e : B) �
 getD-map f [] i d e h = absurd (not-suc-le-zero h)
 getD-map f (x ∷ l) zero d e h = refl
 getD-map f (x ∷ l) (suc i) d e h = getD-map f l i d e (le-of-suc-le-suc h)
-
-small-word : (fmt : Format) → wordBits fmt ≤ 64
-small-word binary32 = lit≤ tt
-small-word binary64 = lit≤ tt
 
 module _ (fmt : Format) (p : Pair) (vs : List ℕ) where
   abbrev ts : List (Option ℤ)

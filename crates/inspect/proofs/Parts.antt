@@ -1,17 +1,20 @@
 -- The two parts of a vector that the code lends on: its packed part, and the lists behind it. Assumes nothing.
 use mathlib.Core.Path.{_≡_, sym, ap, ap₂, _∙_, subst}
-use mathlib.Core.List.{List}
-use Prim.Native.Nat.{ℕ, _+_, _-_, _^_, _≤_}
+use mathlib.Core.List.{List, []}
+use Prim.Native.Nat.{ℕ, _+_, _-_, _^_, _<_, _≤_}
 use native.Mathlib.Omega.{arith}
 use lib.ListN.{length, take, drop, length-take, length-drop}
 use lib.Seq.{drop-drop}
 use lib.Ieee.{Format}
 use Rattle.digits.specs.Digits.{numbers, packedSize}
+use Rattle.digits.specs.Lists.{Each}
 use Rattle.digits.proofs.Lists.{lent, lent-is}
-use Rattle.rules.specs.Kind.{maxS, metaBytes}
+use Rattle.rules.specs.Kind.{maxS, metaBytes, wordBits}
+use Rattle.rules.specs.Vector.{fields, wholes}
 use Rattle.rules.specs.Page.{Meta, metaAt, rawFrom}
 use Rattle.rules.specs.Write.{Allowed}
 use Rattle.rules.proofs.Reading.{Passed, Rising}
+use Rattle.rules.proofs.Tries.{Held}
 use Rattle.inspect.specs.Seen.{seen, FieldsLaid, ListsLaid}
 
 -- the part from a to b
@@ -35,11 +38,14 @@ module _ (fmt : Format) (n : ℕ) (m : Meta) (part : List ℕ) (e : m ≡ metaAt
   lists-are : lent (front + size) part ≡ drop (packedSize n (m .width)) (drop (metaBytes fmt) part)
   lists-are = lent-is (front + size) part ∙ ap₂ (λ (x y : ℕ). drop (x + y) part) ef es ∙ sym (drop-drop (packedSize n (m .width)) (metaBytes fmt) part)
 
-  pub fields-laid : FieldsLaid fmt n m (cut front (front + size) part)
-  fields-laid = record {
+  pub fields-laid : m .frame < 2 ^ wordBits fmt → FieldsLaid fmt n m (cut front (front + size) part)
+  unfolding wholes fields rawFrom
+  fields-laid framed = record {
     many = many;
     narrow = shown .narrow;
     long = ap length packed-is ∙ length-take (packedSize n (m .width)) (drop (metaBytes fmt) part) ∙ omega (arith, shown .whole, length-drop (metaBytes fmt) part);
+    framed = framed;
+    held = subst (λ (l : List ℕ). Each (Held fmt) (wholes fmt (seen fmt n m l []))) (sym packed-is) (shown .held);
   }
 
   pub lists-laid : ListsLaid fmt n m (lent (front + size) part)

@@ -9,7 +9,7 @@ use native.Mathlib.Numerals.{add-one}
 use native.Mathlib.Omega.{arith}
 use lib.ListN.{length, getD, drop, drop-of-length-le}
 use lib.IntN.{ℤ, pos}
-use lib.Ieee.{Format, binary32, binary64}
+use lib.Ieee.{Format}
 use Rattle.digits.specs.Digits.{number, unpack}
 use Rattle.digits.proofs.Rows.{length-numbers}
 use Rattle.digits.proofs.Fields.{start-room, start-fits}
@@ -23,22 +23,19 @@ use native.Mathlib.Nat.{lt-of-lt-of-le}
 use Rattle.digits.proofs.Lists.{below-each}
 use Rattle.digits.proofs.Laws.{to-below}
 use Rattle.rules.proofs.Order.{lesser-cases, greatest-lt}
+use Rattle.rules.proofs.Encoded.{small-word}
 use Rattle.rules.proofs.Decoded.{wholes-count}
 use Rattle.inspect.specs.Seen.{seen, FieldsLaid, ListsLaid, isNext, behind, markOf}
 use Rattle.inspect.proofs.Steps.{Walk, walk-start, walk-step}
 
 -- ---- sizes
 
-widest : (fmt : Format) → wordBits fmt ≤ 64
-widest binary32 = omega arith
-widest binary64 = omega arith
-
 module _ (fmt : Format) (n : ℕ) (m : Meta) (packed : List ℕ) (laid : FieldsLaid fmt n m packed) (i start : ℕ) (e : start ≡ m .width * i) (more : i < n) where
   pub fields-room : (m .width ≤ wordBits fmt) × (start + m .width ≤ 8 * length packed)
   fields-room = (laid .narrow, omega (arith, laid .long, start-room (m .width) i start e n more))
 
   pub bits-fit : start + m .width < 2 ^ 64
-  bits-fit = start-fits (m .width) i start e n more (omega (arith, laid .many)) (omega (arith, laid .narrow, widest fmt))
+  bits-fit = start-fits (m .width) i start e n more (omega (arith, laid .many)) (omega (arith, laid .narrow, small-word fmt))
 
 module _ (fmt : Format) (n : ℕ) (m : Meta) (packed lists : List ℕ) (laid : ListsLaid fmt n m lists) where
   pub seen-start : Walk (seen fmt n m packed lists) 0 0

@@ -10,22 +10,24 @@ use native.Mathlib.Omega.{arith}
 use lib.ListN.{length, getD, take, drop, drop-of-length-le}
 use lib.Seq.{drop-cons, drop-drop}
 use lib.Dec.{ltb, eqb}
-use lib.IntN.{ℤ, pos}
+use lib.IntN.{ℤ, pos, _+ℤ_}
 use lib.Ieee.{Format}
 use mir.Val.{toZ}
 use borrow.Author.Tests.{ltb-true, ltb-false, lt-ltb, le-ltb, eqb-true, eqb-false}
 use Rattle.digits.specs.Lists.{Each}
 use Rattle.digits.specs.Digits.{number, numbers, unpack}
-use Rattle.digits.proofs.Lists.{each-map}
-use Rattle.digits.proofs.Laws.{length-to}
+use Rattle.digits.proofs.Lists.{each-map, each-drop}
 use Rattle.digits.proofs.Rows.{length-numbers, getD-numbers}
-use Rattle.digits.proofs.Fields.{field-at}
+use Rattle.digits.proofs.Fields.{field-from}
 use Rattle.rules.specs.Kind.{word, wordBits}
 use Rattle.rules.specs.Vector.{Raw, fields, wholes, marks, marked}
+use Rattle.rules.specs.Page.{Meta}
+use Rattle.rules.proofs.Fields.{sum-of-words}
+use Rattle.rules.proofs.Tries.{Held}
 use Rattle.rules.proofs.Reading.{Rising}
 use Rattle.rules.proofs.Marks.{stored-none, stored-here, marks-skip}
 use Rattle.rules.proofs.Decoded.{wholes-count}
-use Rattle.inspect.specs.Seen.{isNext, behind, markOf}
+use Rattle.inspect.specs.Seen.{seen, FieldsLaid, isNext, behind, markOf}
 
 -- ---- lists
 
@@ -166,21 +168,23 @@ module _ (r : Raw) (i j : ℕ) (w : Walk r i j) (more : i < r .count) where
 
 -- ---- the fields and the whole numbers from position i on
 
-pub field-from : (w n : ℕ) (bs : List ℕ) (i start : ℕ) → i < n → start ≡ w * i → drop i (unpack w n bs) ≡ number bs / 2 ^ start % 2 ^ w ∷ drop (i + 1) (unpack w n bs)
-field-from w n bs i start more e =
-    rw add-one (drop-cons (unpack w n bs) i 0 (omega (arith, length-to (2 ^ w) n (number bs))))
-    ∙ ap (λ (d : ℕ). d ∷ drop (i + 1) (unpack w n bs)) (field-at w n bs i start more e)
+-- one of them, whatever it is
+pub some-whole : (fmt : Format) (r : Raw) (i : ℕ) → i < r .count → drop i (wholes fmt r) ≡ getD (wholes fmt r) i (pos 0) ∷ drop (i + 1) (wholes fmt r)
+some-whole fmt r i more = rw add-one (drop-cons (wholes fmt r) i (pos 0) (omega (arith, wholes-count fmt r)))
 
-module _ (fmt : Format) (r : Raw) (i : ℕ) (more : i < r .count) where
-  -- one of them, whatever it is
-  pub some-whole : drop i (wholes fmt r) ≡ getD (wholes fmt r) i (pos 0) ∷ drop (i + 1) (wholes fmt r)
-  some-whole = rw add-one (drop-cons (wholes fmt r) i (pos 0) (omega (arith, wholes-count fmt r)))
+-- the one that the code makes of the frame and the field at bit `start`
+module _ (fmt : Format) (n : ℕ) (m : Meta) (packed : List ℕ) (laid : FieldsLaid fmt n m packed) (lists : List ℕ) where
+  abbrev zs : List ℤ
+  zs = wholes fmt (seen fmt n m packed lists)
 
-  module _ (start : ℕ) (e : start ≡ r .width * i) where
-    -- the one that the code makes of the frame and the field at this bit
-    pub whole-from : (x : ℕ) → x ≡ (r .frame + number (r .packed) / 2 ^ start % 2 ^ r .width) % 2 ^ wordBits fmt
-        → drop i (wholes fmt r) ≡ toZ (word fmt) x ∷ drop (i + 1) (wholes fmt r)
-    unfolding wholes fields
-    whole-from x is =
-        let g : ℕ → ℤ = λ d. toZ (word fmt) ((r .frame + d) % 2 ^ wordBits fmt) in
-        drop-map g i (fields r) ∙ ap (map g) (field-from (r .width) (r .count) (r .packed) i start more e) ∙ ap₂ (λ (z : ℤ) (zs : List ℤ). z ∷ zs) (ap (toZ (word fmt)) (sym is)) (sym (drop-map g (i + 1) (fields r)))
+  pub whole-from : (i : ℕ) → i < n → (start : ℕ) → start ≡ m .width * i → (x : ℕ) → x ≡ (m .frame + number packed / 2 ^ start % 2 ^ m .width) % 2 ^ wordBits fmt
+      → drop i zs ≡ toZ (word fmt) x ∷ drop (i + 1) zs
+  unfolding wholes fields
+  whole-from i more start e x is =
+      let g : ℕ → ℤ = λ d. toZ (word fmt) (m .frame) +ℤ pos d in
+      let ds : List ℕ = unpack (m .width) n packed in
+      let d : ℕ = number packed / 2 ^ start % 2 ^ m .width in
+      let here : drop i zs ≡ g d ∷ drop (i + 1) zs =
+      drop-map g i ds ∙ ap (map g) (field-from (m .width) n packed i start more e) ∙ ap (λ (l : List ℤ). g d ∷ l) (sym (drop-map g (i + 1) ds)) in
+      let held : Held fmt (g d) = subst (Each (Held fmt)) here (each-drop (Held fmt) i zs (laid .held)) .0 in
+      here ∙ ap (λ (z : ℤ). z ∷ drop (i + 1) zs) (sym (ap (toZ (word fmt)) is ∙ sum-of-words (word fmt) (m .frame) d (laid .framed) held))

@@ -1,20 +1,22 @@
 -- A vector as the code walks over it: its numbers, its packed part, and what stands behind that, the lists of exceptions. Assumes nothing.
-use Prim.Native.Nat.{ℕ, _+_, _*_, _^_, _≤_}
+use Prim.Native.Nat.{ℕ, _+_, _*_, _^_, _<_, _≤_}
 use mathlib.Core.Path.{_≡_}
 use mathlib.Core.Bool.{Bool, true, false, _&&_}
-use mathlib.Core.List.{List}
+use mathlib.Core.List.{List, []}
 use mathlib.Core.Option.{Option, none, some}
 use lib.ListN.{length, getD, drop}
 use lib.Dec.{ltb, eqb}
 use lib.IntN.{ℤ}
 use lib.Ieee.{Format, binary32, binary64}
 use Rattle.digits.specs.Digits.{numbers, packedSize}
+use Rattle.digits.specs.Lists.{Each}
 use Rattle.rules.specs.Kind.{maxS, wordBits, wordBytes}
 use Rattle.rules.specs.Vector.{Raw, wholes, marked}
 use Rattle.rules.specs.Page.{Meta}
 use Rattle.rules.specs.Verdict.{Rows}
 use Rattle.rules.specs.Examine.{standInOf, firstRows}
 use Rattle.rules.proofs.Reading.{Rising}
+use Rattle.rules.proofs.Tries.{Held}
 use Rattle.decimal.specs.Scale.{pair32, pair64}
 use Rattle.inspect.specs.declared.walk.Vector32.{Vector32}
 use Rattle.inspect.specs.declared.walk.Vector64.{Vector64}
@@ -31,11 +33,13 @@ seen fmt n m packed lists = record {
   exceptions = numbers (wordBytes fmt) (m .listed) (drop (m .listed * 2) lists);
 }
 
--- what the layout's check shows of its packed part, and of its lists
+-- what the layout's check shows of its packed part, whose sums the kind's signed range holds, and of its lists
 pub record FieldsLaid (fmt : Format) (n : ℕ) (m : Meta) (packed : List ℕ) : Type 0 where
   pub many : n ≤ 2 ^ maxS
   pub narrow : m .width ≤ wordBits fmt
   pub long : length packed ≡ packedSize n (m .width)
+  pub framed : m .frame < 2 ^ wordBits fmt
+  pub held : Each (Held fmt) (wholes fmt (seen fmt n m packed []))
 
 pub record ListsLaid (fmt : Format) (n : ℕ) (m : Meta) (lists : List ℕ) : Type 0 where
   pub many : n ≤ 2 ^ maxS

@@ -49,7 +49,7 @@ pub fn next_index(listed: bool, j: usize) -> usize
     if listed { j + 1 } else { j }
 }
 
-// The whole number whose field starts at this bit, as a word: frame plus field, modulo 2^W.
+// The whole number whose field starts at this bit, as a word: row 17 has passed, so the words may be added modulo 2^W.
 pub fn word_at64(packed: &[u8], start: usize, k: Vector64) -> u64
     requires { ⌜ (k .width ≤ 64) × (start + k .width ≤ 8 * length (now packed)) ⌝ }
     ensures { λ r. ⌜ r ≡ (k .frame + number (now (packed .entry)) / 2 ^ start % 2 ^ k .width) % 2 ^ 64 ⌝ }

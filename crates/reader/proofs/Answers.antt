@@ -26,7 +26,7 @@ no15 bs room count e h = rw (← e, lt-ltb room count h)
 pub room-passes : (bs : List ℕ) (room count : ℕ) → count ≡ countOf bs → count ≤ room → fine ≡ verdict (row 15 the-page (room below countOf bs))
 room-passes bs room count e h = rw (← e, le-ltb room count h)
 
--- rows 1 to 14, then 15, which counts only where those have passed
+-- rows 1 to 14 and 17, then 15, which counts only where those have passed
 pub in-order : (fmt : Format) (room : ℕ) (bs : List ℕ) (laid fits r : Check) → asVerdict laid ≡ verdict (pageRows fmt bs)
     → (8 ≤ length bs → asVerdict fits ≡ verdict (row 15 the-page (room below countOf bs))) → asVerdict r ≡ first (asVerdict laid) (asVerdict fits)
     → asVerdict r ≡ verdict (readRows fmt room bs)

@@ -1,5 +1,5 @@
-// The reader. Rows 1 to 14 are the check of a page's layout, then comes 15; nothing is written before all have passed. Then each vector
-// is read into its part of the output.
+// The reader. Rows 1 to 14 and 17 are the check of a page's layout, then comes 15; nothing is written before all have passed. Then each
+// vector is read into its part of the output.
 use checks::check::Check;
 use checks::check::first_of;
 use checks::check::refuses;
@@ -40,7 +40,7 @@ fn check_room(page: &[u8], room: usize) -> Check
     Check::Fine
 }
 
-// Rows 1 to 14, then 15.
+// Rows 1 to 14 and 17, then 15.
 fn check_read(page: &[u8], kind: Kind, room: usize) -> Check
     ensures { λ r. ⌜ asVerdict r ≡ verdict (readRows (formatOf kind) room (now (page .entry))) ⌝ }
 {

@@ -7,7 +7,7 @@ use lib.Ieee.{Format}
 use borrow.Author.Tests.{lt-ltb, le-ltb, eq-eqb, ne-eqb}
 use Rattle.rules.specs.Page.{vectorsOf, vectorSize, metaAt}
 use Rattle.rules.specs.Verdict.{Rows, fine, refuse, verdict, the-page, in-vector}
-use Rattle.rules.specs.Read.{headRows, offsetsRow, metaRows, listRows}
+use Rattle.rules.specs.Read.{headRows, offsetsRow, metaRows, payloadRows}
 use Rattle.rules.specs.ReadVector.{valuesIn, Span, spanOf, partFrom, numberRows, aloneRows, readVectorRows}
 use Rattle.rules.specs.declared.Answer.{Answer}
 use Rattle.rules.proofs.Reading.{MetaPassed, meta-fine}
@@ -58,7 +58,7 @@ module _ {fmt : Format} {v n low : ℕ} {l : Span} {bs : List ℕ} (q : Describe
     unfolding aloneRows
     ends-elsewhere h = rw (le-ltb (l .from) low (q .late), q .described, ← ek, ne-eqb (l .from + k) (l .to) h)
 
-    pub alone-goes-on : l .from + k ≡ l .to → (r : Check) → asVerdict r ≡ verdict (listRows fmt v n (metaAt fmt bs) bs) → asVerdict r ≡ verdict (aloneRows fmt v n low l (metaAt fmt bs) bs)
+    pub alone-goes-on : l .from + k ≡ l .to → (r : Check) → asVerdict r ≡ verdict (payloadRows fmt v n (metaAt fmt bs) bs) → asVerdict r ≡ verdict (aloneRows fmt v n low l (metaAt fmt bs) bs)
     unfolding aloneRows
     alone-goes-on h r e = rw (le-ltb (l .from) low (q .late), q .described, ← ek, eq-eqb (l .from + k) (l .to) h) e
 

@@ -12,13 +12,12 @@ use checks::kind::Kind;
 use checks::sizes::least;
 use checks::sizes::size_of;
 use checks::sizes::vector_size;
-use checks::vector::check_list;
 use checks::vector::check_meta;
+use checks::vector::check_payload;
 use checks::vector::meta_at;
 use rules::Answer;
 ghost use mathlib.Core.Path.{_≡_};
 ghost use Prim.Native.Nat.{_^_, _≤_, _<_};
-ghost use lib.ListN.{length};
 ghost use lib.Ieee.{binary32, binary64};
 ghost use Rattle.rules.specs.Kind.{maxS};
 ghost use Rattle.rules.specs.Page.{metaAt};
@@ -75,7 +74,7 @@ fn span_of(page: &[u8], number: usize) -> Span
     Span { from, to }
 }
 
-// Rows 8, 7 for metadata, 9 to 12, 7 for data, 8 again, 13, of the vector at the front of the part; the offsets end at `low`.
+// Rows 8, 7 for metadata, 9 to 12, 7 for data, 8 again, 13, 17, of the vector at the front of the part; the offsets end at `low`.
 fn check_alone(part: &[u8], kind: Kind, v: usize, n: usize, low: usize, span: Span) -> Check
     requires { ⌜ (n ≤ 2 ^ maxS) × (span .from < 2 ^ 32) ⌝ }
     ensures { λ r. ⌜ asVerdict r ≡ verdict (aloneRows (formatOf kind) v n low (asSpan span) (metaAt (formatOf kind) (now (part .entry))) (now (part .entry))) ⌝ }
@@ -94,7 +93,7 @@ fn check_alone(part: &[u8], kind: Kind, v: usize, n: usize, low: usize, span: Sp
     if from + vector_size(kind, n, m.width, m.listed) != span.to {
         return refuses(8, v, 0);
     }
-    check_list(part, kind, v, n)
+    check_payload(part, kind, v, n)
 }
 
 // All rows in their order. A vector that starts past the page's end has no bytes.

@@ -1,4 +1,4 @@
--- `check_read` meets its contract: rows 1 to 14, then 15. Assumes nothing.
+-- `check_read` meets its contract: rows 1 to 14 and 17, then 15. Assumes nothing.
 use denote.Ref.{now}
 use Rattle.checks.specs.Forms.{formatOf}
 use Rattle.reader.proofs.Answers.{in-order}

@@ -1,5 +1,5 @@
 use Rattle.checks.proofs.Refusals.{check-fine}
--- `check_alone` meets its contract: where the vector starts, its metadata, where it ends, its positions. Assumes nothing.
+-- `check_alone` meets its contract: where the vector starts, its metadata, where it ends, its payload. Assumes nothing.
 use denote.Ref.{now}
 use mathlib.Core.Path.{_≡_, ap, _∙_}
 use native.Mathlib.Omega.{arith}
@@ -14,7 +14,7 @@ use Rattle.vector_reader.proofs.check_alone.Reads as reads
 use Rattle.vector_reader.proofs.check_alone.Lts as lts
 use Rattle.checks.proofs.check.refuses.Reads as refuses-reads
 use Rattle.checks.proofs.sizes.vector_size.Reads as vector-size-reads
-use Rattle.checks.proofs.vector.check_list.Reads as check-list-reads
+use Rattle.checks.proofs.vector.check_payload.Reads as check-payload-reads
 use Rattle.checks.proofs.vector.check_meta.Reads as check-meta-reads
 use Rattle.checks.proofs.vector.meta_at.Reads as meta-at-reads
 
@@ -59,11 +59,11 @@ refuses-requires-2 c κs = search needs
 returns-3 : tie.Need-returns-3
 returns-3 c = c .refuses2 .ensures ∙ ends-elsewhere (described (c .before .before .before .before .before)) (size-is (c .before .before .before)) (c .before .if2 .taken)
 
-check-list-requires : tie.Need-check-list-requires
-check-list-requires c κs = (omega arith, meta-passes (described (c .before .before .before .before)) .whole)
+check-payload-requires : tie.Need-check-payload-requires
+check-payload-requires c κs = (omega arith, meta-passes (described (c .before .before .before .before)))
 
 returns-4 : tie.Need-returns-4
-returns-4 c = alone-goes-on (described (c .before .before .before .before .before)) (size-is (c .before .before .before)) (c .before .if2 .left) (c .check-list .result) (c .check-list .ensures)
+returns-4 c = alone-goes-on (described (c .before .before .before .before .before)) (size-is (c .before .before .before)) (c .before .if2 .left) (c .check-payload .result) (c .check-payload .ensures)
 
 pub check-alone-spec : {M : Type 1} → statement M
 check-alone-spec =
@@ -80,5 +80,5 @@ check-alone-spec =
     add-if2
     refuses-requires-2
     returns-3
-    check-list-requires
+    check-payload-requires
     returns-4)

@@ -1,5 +1,6 @@
 -- `vector::check_list` meets its contract: the positions stand behind the packed fields, inside the vector. Assumes nothing.
 use mathlib.Core.Path.{ap, ap₂, _∙_}
+use mathlib.Core.List.{List}
 use Prim.Native.Nat.{ℕ, _+_}
 use native.Mathlib.Omega.{arith}
 use lib.ListN.{drop}
@@ -8,7 +9,8 @@ use Rattle.digits.specs.Digits.{numbers}
 use Rattle.rules.specs.Page.{vectorSize}
 use Rattle.rules.specs.Page as page
 use Rattle.rules.specs.Verdict.{verdict}
-use Rattle.rules.specs.Read.{positionsRows, listRows}
+use Rattle.rules.specs.Kind.{metaBytes}
+use Rattle.rules.specs.Read.{positionsRows}
 use Rattle.checks.specs.Forms.{formatOf, asMeta, no-position}
 use Rattle.checks.proofs.Bounds.{positions-fit}
 use Rattle.checks.proofs.Turns.{list-is}
@@ -48,8 +50,8 @@ returns c =
     let m = c .before .before .before .meta-at in
     c .check-positions .ensures
     ∙ ap₂ (λ (x y : ℕ). verdict (positionsRows (a .v) (a .n) no-position (numbers 2 (m .result .listed) (drop (x + y) bs)))) (c .before .before .meta-bytes .ensures .0) (c .before .packed-size .ensures .0)
-    ∙ ap verdict (list-is fmt (a .v) (a .n) (asMeta (m .result)) bs)
-    ∙ ap (λ (x : page.Meta). verdict (listRows fmt (a .v) (a .n) x bs)) (m .ensures .meta-is)
+    ∙ ap (λ (x : List ℕ). verdict (positionsRows (a .v) (a .n) no-position x))
+    (list-is fmt (a .n) (asMeta (m .result)) bs ∙ ap (λ (x : page.Meta). page.rawFrom fmt (a .n) x (drop (metaBytes fmt) bs) .positions) (m .ensures .meta-is))
 
 pub check-list-spec : {M : Type 1} → statement M
 check-list-spec =

@@ -1,4 +1,4 @@
--- `vector::check_vector` meets its contract: row 8 and the rows of the metadata, then row 13. Assumes nothing.
+-- `vector::check_vector` meets its contract: row 8 and the rows of the metadata, then rows 13 and 17. Assumes nothing.
 use mathlib.Core.Path.{_≡_, ap₂, _∙_}
 use native.Mathlib.Omega.{arith}
 use lib.Ieee.{Format}
@@ -16,7 +16,7 @@ use Rattle.checks.proofs.vector.check_vector.Tie as tie
 use Rattle.checks.proofs.vector.check_vector.Reads as reads
 use Rattle.checks.proofs.vector.check_vector.Lts as lts
 use Rattle.checks.proofs.check.first_of.Reads as first-of-reads
-use Rattle.checks.proofs.vector.check_list.Reads as check-list-reads
+use Rattle.checks.proofs.vector.check_payload.Reads as check-payload-reads
 use Rattle.checks.proofs.vector.check_meta.Reads as check-meta-reads
 use Rattle.checks.proofs.vector.check_offset.Reads as check-offset-reads
 use Rattle.checks.proofs.vector.values_here.Reads as values-here-reads
@@ -61,16 +61,16 @@ returns c =
 enum-told : tie.Need-enum-told
 enum-told c = search needs
 
-check-list-requires : tie.Need-check-list-requires
-check-list-requires c κs =
+check-payload-requires : tie.Need-check-payload-requires
+check-payload-requires c κs =
     let a = c .before .before .before .before .before .before .before .args in
     let ok = then-fine (offset-row (c .before .before)) (meta-rows (c .before .before)) (check-fine (c .before .before .first-of .result) (both (c .before .before)) (c .enum-told .given .1)) in
-    (omega arith, meta-fine (fmt-at (c .before .before)) (a .cursor .vector) (c .before .before .before .before .before .values-here .result) (meta-here (c .before .before)) (now (a .part)) (ok .1) .whole)
+    (omega arith, meta-fine (fmt-at (c .before .before)) (a .cursor .vector) (c .before .before .before .before .before .values-here .result) (meta-here (c .before .before)) (now (a .part)) (ok .1))
 
 returns-2 : tie.Need-returns-2
 returns-2 c =
     let a = c .before .before .before .before .before .before .before .before .args in
-    goes-on (c .before .before .before .first-of .result) _ (both (c .before .before .before)) (c .check-list .result) _ (c .before .enum-told .given .1) (c .check-list .ensures)
+    goes-on (c .before .before .before .first-of .result) _ (both (c .before .before .before)) (c .check-payload .result) _ (c .before .enum-told .given .1) (c .check-payload .ensures)
     ∙ vector-is (fmt-at (c .before .before .before)) (a .size) (asCursor (a .cursor)) (a .offset) (c .before .before .before .before .before .before .values-here .result) (meta-here (c .before .before .before)) (now (a .part)) (c .before .before .before .before .before .before .values-here .ensures)
 
 pub check-vector-spec : {M : Type 1} → statement M
@@ -84,5 +84,5 @@ check-vector-spec =
     enum-known-answer
     returns
     enum-told
-    check-list-requires
+    check-payload-requires
     returns-2)

@@ -71,7 +71,7 @@ returns c =
     let r = seen32 (a .k) (now (a .packed)) (now (a .lists)) in
     let l = c .before .before .before .before .before .before .loop in
     c .refuses .ensures
-    ∙ scan-stops binary32 r 23 (a .k .number) (unfilled (standInOf (wholes binary32 r) (marked r))) (l .i) (l .j) (l .inv .1) (c .before .before .before .before .before .loop-test .taken) (toZ w32 (c .before .before .before .word-at32 .result)) (whole-from binary32 r (l .i) (c .before .before .before .before .before .loop-test .taken) (l .start) (l .inv .0) (c .before .before .before .word-at32 .result) (c .before .before .before .word-at32 .ensures))
+    ∙ scan-stops binary32 r 23 (a .k .number) (unfilled (standInOf (wholes binary32 r) (marked r))) (l .i) (l .j) (l .inv .1) (c .before .before .before .before .before .loop-test .taken) (toZ w32 (c .before .before .before .word-at32 .result)) (whole-from binary32 (a .k .count) (meta32 (a .k)) (now (a .packed)) (c .before .before .before .before .before .before .before .before .before .before .pre .0) (now (a .lists)) (l .i) (c .before .before .before .before .before .loop-test .taken) (l .start) (l .inv .0) (c .before .before .before .word-at32 .result) (c .before .before .before .word-at32 .ensures))
     (c .before .before .before .before .is-next .result) (c .before .before .before .before .is-next .ensures) (c .before .before .unfilled32 .result) (c .before .before .unfilled32 .ensures _ ∙ ap (λ (d : ℤ). unfilled d (toZ w32 (c .before .before .before .word-at32 .result)) (markOf (c .before .before .before .before .is-next .result) (getD (r .exceptions) (l .j) 0))) (c .before .before .before .before .before .before .before .stand-in32 .ensures)) (c .before .if1 .taken)
 
 -- src/rows.rt:125:9
@@ -102,7 +102,7 @@ loop-again c =
     let r = seen32 (a .k) (now (a .packed)) (now (a .lists)) in
     let l = c .before .before .before .before .before .before .loop in (
       start-next (a .k .width) (l .i) (l .start) (l .inv .0),
-      scan-next binary32 r 23 (a .k .number) (unfilled (standInOf (wholes binary32 r) (marked r))) (l .i) (l .j) (l .inv .1) (c .before .before .before .before .before .loop-test .taken) (toZ w32 (c .before .before .before .word-at32 .result)) (whole-from binary32 r (l .i) (c .before .before .before .before .before .loop-test .taken) (l .start) (l .inv .0) (c .before .before .before .word-at32 .result) (c .before .before .before .word-at32 .ensures))
+      scan-next binary32 r 23 (a .k .number) (unfilled (standInOf (wholes binary32 r) (marked r))) (l .i) (l .j) (l .inv .1) (c .before .before .before .before .before .loop-test .taken) (toZ w32 (c .before .before .before .word-at32 .result)) (whole-from binary32 (a .k .count) (meta32 (a .k)) (now (a .packed)) (c .before .before .before .before .before .before .before .before .before .before .pre .0) (now (a .lists)) (l .i) (c .before .before .before .before .before .loop-test .taken) (l .start) (l .inv .0) (c .before .before .before .word-at32 .result) (c .before .before .before .word-at32 .ensures))
           (c .before .before .before .before .is-next .result) (c .before .before .before .before .is-next .ensures) (c .before .before .unfilled32 .result) (c .before .before .unfilled32 .ensures _ ∙ ap (λ (d : ℤ). unfilled d (toZ w32 (c .before .before .before .word-at32 .result)) (markOf (c .before .before .before .before .is-next .result) (getD (r .exceptions) (l .j) 0))) (c .before .before .before .before .before .before .before .stand-in32 .ensures)) (c .before .if1 .left) (c .next-index .result) (c .next-index .ensures),
     )
 

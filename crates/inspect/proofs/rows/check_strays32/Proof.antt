@@ -63,7 +63,7 @@ returns c =
     let r = seen32 (a .k) (now (a .packed)) (now (a .lists)) in
     let l = c .before .before .before .before .before .before .loop in
     c .refuses .ensures
-    ∙ scan-stops binary32 r 21 (a .k .number) (strays binary32 (pair32 (a .k .scale))) (l .i) (l .j) (l .inv .1) (c .before .before .before .before .before .loop-test .taken) (toZ w32 (c .before .before .before .word-at32 .result)) (whole-from binary32 r (l .i) (c .before .before .before .before .before .loop-test .taken) (l .start) (l .inv .0) (c .before .before .before .word-at32 .result) (c .before .before .before .word-at32 .ensures))
+    ∙ scan-stops binary32 r 21 (a .k .number) (strays binary32 (pair32 (a .k .scale))) (l .i) (l .j) (l .inv .1) (c .before .before .before .before .before .loop-test .taken) (toZ w32 (c .before .before .before .word-at32 .result)) (whole-from binary32 (a .k .count) (meta32 (a .k)) (now (a .packed)) (c .before .before .before .before .before .before .before .before .before .pre .1) (now (a .lists)) (l .i) (c .before .before .before .before .before .loop-test .taken) (l .start) (l .inv .0) (c .before .before .before .word-at32 .result) (c .before .before .before .word-at32 .ensures))
     (c .before .before .before .before .is-next .result) (c .before .before .before .before .is-next .ensures) (c .before .before .strays32 .result) (c .before .before .strays32 .ensures _) (c .before .if1 .taken)
 
 -- src/rows.rt:60:9
@@ -94,7 +94,7 @@ loop-again c =
     let r = seen32 (a .k) (now (a .packed)) (now (a .lists)) in
     let l = c .before .before .before .before .before .before .loop in (
       start-next (a .k .width) (l .i) (l .start) (l .inv .0),
-      scan-next binary32 r 21 (a .k .number) (strays binary32 (pair32 (a .k .scale))) (l .i) (l .j) (l .inv .1) (c .before .before .before .before .before .loop-test .taken) (toZ w32 (c .before .before .before .word-at32 .result)) (whole-from binary32 r (l .i) (c .before .before .before .before .before .loop-test .taken) (l .start) (l .inv .0) (c .before .before .before .word-at32 .result) (c .before .before .before .word-at32 .ensures))
+      scan-next binary32 r 21 (a .k .number) (strays binary32 (pair32 (a .k .scale))) (l .i) (l .j) (l .inv .1) (c .before .before .before .before .before .loop-test .taken) (toZ w32 (c .before .before .before .word-at32 .result)) (whole-from binary32 (a .k .count) (meta32 (a .k)) (now (a .packed)) (c .before .before .before .before .before .before .before .before .before .pre .1) (now (a .lists)) (l .i) (c .before .before .before .before .before .loop-test .taken) (l .start) (l .inv .0) (c .before .before .before .word-at32 .result) (c .before .before .before .word-at32 .ensures))
           (c .before .before .before .before .is-next .result) (c .before .before .before .before .is-next .ensures) (c .before .before .strays32 .result) (c .before .before .strays32 .ensures _) (c .before .if1 .left) (c .next-index .result) (c .next-index .ensures),
     )
 

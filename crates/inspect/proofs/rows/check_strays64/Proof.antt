@@ -63,7 +63,7 @@ returns c =
     let r = seen64 (a .k) (now (a .packed)) (now (a .lists)) in
     let l = c .before .before .before .before .before .before .loop in
     c .refuses .ensures
-    ∙ scan-stops binary64 r 21 (a .k .number) (strays binary64 (pair64 (a .k .scale))) (l .i) (l .j) (l .inv .1) (c .before .before .before .before .before .loop-test .taken) (toZ w64 (c .before .before .before .word-at64 .result)) (whole-from binary64 r (l .i) (c .before .before .before .before .before .loop-test .taken) (l .start) (l .inv .0) (c .before .before .before .word-at64 .result) (c .before .before .before .word-at64 .ensures))
+    ∙ scan-stops binary64 r 21 (a .k .number) (strays binary64 (pair64 (a .k .scale))) (l .i) (l .j) (l .inv .1) (c .before .before .before .before .before .loop-test .taken) (toZ w64 (c .before .before .before .word-at64 .result)) (whole-from binary64 (a .k .count) (meta64 (a .k)) (now (a .packed)) (c .before .before .before .before .before .before .before .before .before .pre .1) (now (a .lists)) (l .i) (c .before .before .before .before .before .loop-test .taken) (l .start) (l .inv .0) (c .before .before .before .word-at64 .result) (c .before .before .before .word-at64 .ensures))
     (c .before .before .before .before .is-next .result) (c .before .before .before .before .is-next .ensures) (c .before .before .strays64 .result) (c .before .before .strays64 .ensures _) (c .before .if1 .taken)
 
 -- src/rows.rt:60:9
@@ -94,7 +94,7 @@ loop-again c =
     let r = seen64 (a .k) (now (a .packed)) (now (a .lists)) in
     let l = c .before .before .before .before .before .before .loop in (
       start-next (a .k .width) (l .i) (l .start) (l .inv .0),
-      scan-next binary64 r 21 (a .k .number) (strays binary64 (pair64 (a .k .scale))) (l .i) (l .j) (l .inv .1) (c .before .before .before .before .before .loop-test .taken) (toZ w64 (c .before .before .before .word-at64 .result)) (whole-from binary64 r (l .i) (c .before .before .before .before .before .loop-test .taken) (l .start) (l .inv .0) (c .before .before .before .word-at64 .result) (c .before .before .before .word-at64 .ensures))
+      scan-next binary64 r 21 (a .k .number) (strays binary64 (pair64 (a .k .scale))) (l .i) (l .j) (l .inv .1) (c .before .before .before .before .before .loop-test .taken) (toZ w64 (c .before .before .before .word-at64 .result)) (whole-from binary64 (a .k .count) (meta64 (a .k)) (now (a .packed)) (c .before .before .before .before .before .before .before .before .before .pre .1) (now (a .lists)) (l .i) (c .before .before .before .before .before .loop-test .taken) (l .start) (l .inv .0) (c .before .before .before .word-at64 .result) (c .before .before .before .word-at64 .ensures))
           (c .before .before .before .before .is-next .result) (c .before .before .before .before .is-next .ensures) (c .before .before .strays64 .result) (c .before .before .strays64 .ensures _) (c .before .if1 .left) (c .next-index .result) (c .next-index .ensures),
     )
 

@@ -25,7 +25,7 @@ returns : tie.Need-returns
 returns c lists =
     let a = c .before .before .before .args in
     let r = seen32 (a .k) (now (a .packed)) lists in
-    least-first binary32 r (toZ w32 (c .word-at32 .result)) (whole-from binary32 r 0 (c .before .if1 .taken) 0 (sym (mul-zero (a .k .width))) (c .word-at32 .result) (c .word-at32 .ensures))
+    least-first binary32 r (toZ w32 (c .word-at32 .result)) (whole-from binary32 (a .k .count) (meta32 (a .k)) (now (a .packed)) (c .before .before .before .pre) lists 0 (c .before .if1 .taken) 0 (sym (mul-zero (a .k .width))) (c .word-at32 .result) (c .word-at32 .ensures))
 
 -- src/rows.rt:133:1
 returns-2 : tie.Need-returns-2

@@ -25,7 +25,7 @@ returns : tie.Need-returns
 returns c lists =
     let a = c .before .before .before .args in
     let r = seen64 (a .k) (now (a .packed)) lists in
-    least-first binary64 r (toZ w64 (c .word-at64 .result)) (whole-from binary64 r 0 (c .before .if1 .taken) 0 (sym (mul-zero (a .k .width))) (c .word-at64 .result) (c .word-at64 .ensures))
+    least-first binary64 r (toZ w64 (c .word-at64 .result)) (whole-from binary64 (a .k .count) (meta64 (a .k)) (now (a .packed)) (c .before .before .before .pre) lists 0 (c .before .if1 .taken) 0 (sym (mul-zero (a .k .width))) (c .word-at64 .result) (c .word-at64 .ensures))
 
 -- src/rows.rt:133:1
 returns-2 : tie.Need-returns-2

@@ -10,7 +10,7 @@ use Rattle.digits.specs.Digits.{number, unpack}
 use Rattle.digits.proofs.Laws.{length-to}
 use Rattle.digits.proofs.Fields.{start-next, start-room, start-fits}
 use Rattle.rules.specs.Vector.{greatest}
-use Rattle.inspect.proofs.Steps.{field-from}
+use Rattle.digits.proofs.Fields.{field-from}
 use Rattle.inspect.proofs.Scans.{greatest-next, greatest-end}
 use borrow.Author.Needs.{needs}
 use Rattle.inspect.proofs.rows.largest.Statement.{statement}

@@ -72,7 +72,7 @@ loop-again c =
       λ lists.
           let r = seen32 (a .k) (now (a .packed)) lists in
           least-next binary32 r (l .i) (toZ w32 (l .smallest)) (toZ w32 (c .before .word-at32 .result)) (toZ w32 (c .smaller32 .result)) (l .inv .1 lists)
-          (whole-from binary32 r (l .i) (c .before .before .loop-test .taken) (l .start) (l .inv .0) (c .before .word-at32 .result) (c .before .word-at32 .ensures)) (c .smaller32 .ensures),
+          (whole-from binary32 (a .k .count) (meta32 (a .k)) (now (a .packed)) (c .before .before .before .before .before .before .pre) lists (l .i) (c .before .before .loop-test .taken) (l .start) (l .inv .0) (c .before .word-at32 .result) (c .before .word-at32 .ensures)) (c .smaller32 .ensures),
     )
 
 -- src/rows.rt:145:1

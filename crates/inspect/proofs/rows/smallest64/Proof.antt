@@ -72,7 +72,7 @@ loop-again c =
       λ lists.
           let r = seen64 (a .k) (now (a .packed)) lists in
           least-next binary64 r (l .i) (toZ w64 (l .smallest)) (toZ w64 (c .before .word-at64 .result)) (toZ w64 (c .smaller64 .result)) (l .inv .1 lists)
-          (whole-from binary64 r (l .i) (c .before .before .loop-test .taken) (l .start) (l .inv .0) (c .before .word-at64 .result) (c .before .word-at64 .ensures)) (c .smaller64 .ensures),
+          (whole-from binary64 (a .k .count) (meta64 (a .k)) (now (a .packed)) (c .before .before .before .before .before .before .pre) lists (l .i) (c .before .before .loop-test .taken) (l .start) (l .inv .0) (c .before .word-at64 .result) (c .before .word-at64 .ensures)) (c .smaller64 .ensures),
     )
 
 -- src/rows.rt:145:1

@@ -80,7 +80,7 @@ returns-2 c =
     let a = c .before .before .before .before .before .before .before .args in
     let r = seen64 (a .k) (now (a .packed)) (now (a .lists)) in
     let l = c .before .before .before .before .loop in
-    seek-found binary64 r (l .i) (l .inv .1) (c .before .before .before .if1 .left) (toZ w64 (c .word-at64 .result)) (whole-from binary64 r (l .i) (c .before .before .before .if1 .left) (l .start) (l .inv .0) (c .word-at64 .result) (c .word-at64 .ensures)) (c .before .before .is-next .result) (c .before .before .is-next .ensures) (not-true (c .before .before .is-next .result) (c .before .if2 .taken))
+    seek-found binary64 r (l .i) (l .inv .1) (c .before .before .before .if1 .left) (toZ w64 (c .word-at64 .result)) (whole-from binary64 (a .k .count) (meta64 (a .k)) (now (a .packed)) (c .before .before .before .before .before .before .before .pre .0) (now (a .lists)) (l .i) (c .before .before .before .if1 .left) (l .start) (l .inv .0) (c .word-at64 .result) (c .word-at64 .ensures)) (c .before .before .is-next .result) (c .before .before .is-next .ensures) (not-true (c .before .before .is-next .result) (c .before .if2 .taken))
 
 pub stand-in64-spec : {M : Type 1} → statement M
 stand-in64-spec =

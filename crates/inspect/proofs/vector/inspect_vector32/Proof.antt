@@ -95,7 +95,7 @@ check-rules32-requires c κs =
     let f = c .before .before .before .before .meta-bytes in
     let s = c .before .before .before .packed-size in (
       c .scale-of32 .ensures .1,
-      fields-laid binary32 (a .n) (meta32 (known c)) (now (a .part)) (meta-is c) (c .before .before .before .before .before .before .before .before .pre .0) (c .before .before .before .before .before .before .before .before .pre .1) (f .result) (s .result) (f .ensures .0) (s .ensures .0),
+      fields-laid binary32 (a .n) (meta32 (known c)) (now (a .part)) (meta-is c) (c .before .before .before .before .before .before .before .before .pre .0) (c .before .before .before .before .before .before .before .before .pre .1) (f .result) (s .result) (f .ensures .0) (s .ensures .0) (c .before .before .before .before .before .before .meta-at .ensures .frame),
       lists-laid binary32 (a .n) (meta32 (known c)) (now (a .part)) (meta-is c) (c .before .before .before .before .before .before .before .before .pre .0) (c .before .before .before .before .before .before .before .before .pre .1) (f .result) (s .result) (f .ensures .0) (s .ensures .0),
     )
 

@@ -93,7 +93,7 @@ check-rules64-requires c κs =
     let f = c .before .before .before .before .meta-bytes in
     let s = c .before .before .before .packed-size in (
       c .scale-of64 .ensures .1,
-      fields-laid binary64 (a .n) (meta64 (known c)) (now (a .part)) (meta-is c) (c .before .before .before .before .before .before .before .pre .0) (c .before .before .before .before .before .before .before .pre .1) (f .result) (s .result) (f .ensures .0) (s .ensures .0),
+      fields-laid binary64 (a .n) (meta64 (known c)) (now (a .part)) (meta-is c) (c .before .before .before .before .before .before .before .pre .0) (c .before .before .before .before .before .before .before .pre .1) (f .result) (s .result) (f .ensures .0) (s .ensures .0) (c .before .before .before .before .before .meta-at .ensures .frame),
       lists-laid binary64 (a .n) (meta64 (known c)) (now (a .part)) (meta-is c) (c .before .before .before .before .before .before .before .pre .0) (c .before .before .before .before .before .before .before .pre .1) (f .result) (s .result) (f .ensures .0) (s .ensures .0),
     )
 
