@@ -289,6 +289,20 @@ fn unpacked() {
     text(b"\n");
 }
 
+// The first of R1's fields, 111, 444, 777, 0, above a bound: about each of them, and the bound that no field of 10 bits is above.
+fn above() {
+    let first: [u8; 5] = [0x6F, 0xF0, 0x96, 0x30, 0x00];
+    text(b"first above: ");
+    space(bits::windows::first_above(&first, 10, 4, 110) as u64);
+    space(bits::windows::first_above(&first, 10, 4, 111) as u64);
+    space(bits::windows::first_above(&first, 10, 4, 443) as u64);
+    space(bits::windows::first_above(&first, 10, 4, 444) as u64);
+    space(bits::windows::first_above(&first, 10, 4, 776) as u64);
+    space(bits::windows::first_above(&first, 10, 4, 777) as u64);
+    space(bits::windows::first_above(&first, 10, 4, 1023) as u64);
+    text(b"\n");
+}
+
 fn yes_or_no(b: bool) {
     if b {
         text(b"clear\n");
@@ -331,6 +345,7 @@ fn main() {
     edges64();
     rounding64();
     unpacked();
+    above();
     unused();
     widths();
 }

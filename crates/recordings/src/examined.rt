@@ -2,6 +2,15 @@
 use crate::pages::both32;
 use crate::pages::both64;
 
+// frame -2 for -1.0, 1.0
+fn frame64() {
+    both64(
+        b"row-24-frame-64",
+        b"\x01\x00\x00\x0A\x02\x00\x00\x00\x04\x00\x00\x00\
+        \x00\x00\x00\x00\xFE\xFF\xFF\xFF\xFF\xFF\xFF\xFF\x02\x0D",
+    );
+}
+
 pub fn run() {
     // the lowest unused bit is 1
     let vector_1_row_20: [u8; 35] = [
@@ -278,4 +287,5 @@ pub fn run() {
         0x02,
     ];
     both64(b"row-21-64", &row_21_64);
+    frame64();
 }

@@ -1,6 +1,6 @@
-// Runs document 01's recordings, the edges of the fast rounding, a page read vector by vector, vectors whose pair is chosen, a column written
-// into outputs of edge lengths, and columns of edge lengths through the library and prints what each call answers and gives; the gate holds
-// the output to what an independent program over exact fractions gives.
+// Runs document 01's recordings, the edges of the fast rounding, sums at the end of the kind's range, a page read vector by vector, vectors whose
+// pair is chosen, a column written into outputs of edge lengths, and columns of edge lengths through the library and prints what each call
+// answers and gives; the gate holds the output to what an independent program over exact fractions gives.
 mod chosen;
 mod columns;
 mod examined;
@@ -10,6 +10,7 @@ mod refused;
 mod rounded;
 mod show;
 mod starred;
+mod sums;
 mod vectors;
 
 fn main() {
@@ -17,6 +18,7 @@ fn main() {
     refused::run();
     examined::run();
     rounded::run();
+    sums::run();
     vectors::run();
     chosen::run();
     lent::run();

@@ -76,18 +76,19 @@ fn where_at(a: Answer) {
         }
         8..=12 | 20 | 24 => at_vector(a, b""),
         13 => at_vector(a, b", list index "),
-        21..=23 => at_vector(a, b", position "),
+        17 | 21..=23 => at_vector(a, b", position "),
         _ => {}
     }
 }
 
-// ---- document 01's table, and rows from 30 up, which came later
+// ---- document 01's table, and the rows that came later: 17, and those from 30 up
 
 fn sentence(row: u64) {
     match row {
         1..=6 => header_row(row),
         7..=13 => vector_row(row),
         14..=16 => lent_row(row),
+        17 => text(b"frame plus field leaves the kind's signed range"),
         20..=24 => rule_row(row),
         30 => text(b"there is no vector of that number"),
         31 => text(b"no values, or more than 1,024"),
