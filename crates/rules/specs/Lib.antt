@@ -12,5 +12,6 @@ pub mod Choose
 pub mod Calls
 pub mod Demands
 pub mod Older
+pub mod Wrapped
 pub mod Recordings
 pub mod Edges

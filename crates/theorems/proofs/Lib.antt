@@ -12,6 +12,7 @@ pub mod Listing
 pub mod Bits
 pub mod Done
 pub mod Older
+pub mod Wrapped
 pub mod Stretch
 pub mod Choosing
 pub mod Shortest
