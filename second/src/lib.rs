@@ -13,8 +13,8 @@
 //! - `write`, `read`, `examine`, `read_vector`, `choose`: the calls;
 //! - `frames`: requests and answers as bytes, and the serving side;
 //! - `driver`: runs another program and talks to it in frames;
-//! - `random`, `columns`, `rooms`, `forge`, `widths`, `ask`, `choices`, `older`:
-//!   what the programs are compared on;
+//! - `random`, `columns`, `rooms`, `draft`, `forge`, `widths`, `ask`, `choices`,
+//!   `older`: what the programs are compared on;
 //! - `edges`: which mistakes in the way to a whole number a value would show;
 //! - `tally`: which refusals, widths, rooms, choices, edges and older pages were
 //!   met, and which are missing;
@@ -26,6 +26,7 @@ pub mod choices;
 pub mod choose;
 pub mod columns;
 pub mod compare;
+pub mod draft;
 pub mod driver;
 pub mod edges;
 pub mod examine;
