@@ -1,7 +1,7 @@
 //! What a call says: done with a count, or a refusal with its row.
 //!
-//! Document 01, "When a call says no", and document 02's T-01 and T-04. A row
-//! that names several reasons is split here, so that each reason is counted
+//! Document 01, "When a call says no", and document 02's T-01, T-04 and T-06. A
+//! row that names several reasons is split here, so that each reason is counted
 //! and none goes untried.
 
 /// The six calls. Measuring is the writer's first step, offered by itself;
@@ -57,6 +57,7 @@ pub enum Fault {
     BytesAfter,
     OutputTooShort,
     PairsPerVector,
+    SumLeavesRange,
     UnusedBit,
     BackAsException,
     BackAsAnother,
@@ -99,9 +100,9 @@ const fn line(
     Line { fault, row, text, given_by, of_vector }
 }
 
-/// Document 01's table, with the rows of T-01 and T-04. "All" there is what
-/// writes or reads a page, and counts the measuring step as the writer's.
-pub const TABLE: [Line; 31] = [
+/// Document 01's table, with the rows of T-01, T-04 and T-06. "All" there is
+/// what writes or reads a page, and counts the measuring step as the writer's.
+pub const TABLE: [Line; 32] = [
     line(Fault::FewBytes, 1, "fewer than 8 bytes", PAGE, false),
     line(Fault::Version, 2, "version not 1", PAGE, false),
     line(Fault::Mode, 3, "mode not 0", PAGE, false),
@@ -123,6 +124,7 @@ pub const TABLE: [Line; 31] = [
     line(Fault::BytesAfter, 14, "bytes after the last vector", WHOLE_PAGE, false),
     line(Fault::OutputTooShort, 15, "lent output too short", OUTPUT, false),
     line(Fault::PairsPerVector, 16, "pairs not one per vector", WRITING, false),
+    line(Fault::SumLeavesRange, 17, "a sum leaves the signed range", PAGE, true),
     line(Fault::UnusedBit, 20, "an unused packed bit is 1", EXAMINER, true),
     line(Fault::BackAsException, 21, "comes back as an exception", EXAMINER, true),
     line(Fault::BackAsAnother, 21, "turns into another whole number", EXAMINER, true),

@@ -3,13 +3,13 @@
 
 use std::fmt::Write;
 
-use crate::answer::{answer_of, Answer, Call, Outcome};
+use crate::answer::{answer_of, refuse_at, Answer, Call, Fault, Outcome};
 use crate::ask::{every, two, worn, Question};
 use crate::choices::{self, Place, SORTS, TURNS};
 use crate::columns::{column, shaped_column, Column};
 use crate::driver::{split, Program, Running};
 use crate::floats::{Kind, Pair, KINDS};
-use crate::forge::forged;
+use crate::forge::{forged, summed, Forged, SUM_FORGERIES};
 use crate::frames::{self, value_bytes, Reply, Request, MALFORMED};
 use crate::layout::MOST_IN_VECTOR;
 use crate::older::{self, Fate, FATES};
@@ -17,8 +17,9 @@ use crate::random::Random;
 use crate::read::{parse_header, read};
 use crate::read_vector::read_vector;
 use crate::rooms::{self, SHAPES};
+use crate::sums;
 use crate::tally::Tally;
-use crate::widths::{page_at, COUNTS};
+use crate::widths::{beyond_at, page_at, Beyond, COUNTS};
 
 /// A request and where it comes from.
 struct Case {
@@ -32,12 +33,20 @@ struct Case {
     place: Option<Place>,
     /// What both programs have to say, where that is known before.
     wanted: Option<Reply>,
+    /// Whether what the request shows of row 17 is counted.
+    traced: bool,
 }
 
 impl Case {
     fn of(origin: &str, request: Request) -> Case {
         let (origin, faulty, width) = (origin.into(), false, None);
-        Case { origin, request, faulty, width, place: None, wanted: None }
+        Case { origin, request, faulty, width, place: None, wanted: None, traced: false }
+    }
+
+    /// A request whose answer and output are known before.
+    fn wanted(origin: &str, request: Request, outcome: Outcome, output: Vec<u8>) -> Case {
+        let wanted = Some(Reply { answer: answer_of(outcome), output });
+        Case { wanted, ..Case::of(origin, request) }
     }
 }
 
@@ -63,12 +72,17 @@ const WIDTHS: u64 = 4;
 const ROOMS: u64 = 5;
 const CHOICES: u64 = 6;
 const OLDER: u64 = 7;
+const SUMS: u64 = 8;
+const BEYOND: u64 = 9;
 
 /// How many columns of each shape are written into every room.
 const SHAPED: usize = 12;
 
 /// How many older pages are made for each fate, of each kind and seed.
 const OLDER_PAGES: usize = 150;
+
+/// How many pages are made by each forgery for row 17, of each kind and seed.
+const SUM_PAGES: usize = 60;
 
 /// A comparison with one program, and what it has found so far.
 pub struct Comparison<'a> {
@@ -138,19 +152,45 @@ impl<'a> Comparison<'a> {
         }
     }
 
-    /// Compares damaged and forged pages: read, whole and two vectors each,
-    /// and examined.
+    /// Compares damaged and forged pages.
     pub fn pages(&mut self, seed: u64, count: usize) -> Result<(), String> {
         for index in 0..count {
             let mut random = Random::of_case(seed, PAGES, index as u64);
             let made = forged(index, &mut random);
             let origin = format!("seed {seed}, page {index} ({})", made.note);
-            let (kind, page) = (made.kind, made.page);
-            let output = lend(kind, made.room, &mut random);
-            self.put(&origin, Request::Read { kind, page: page.clone(), output })?;
-            let questions = two(&page, made.touched, &mut random);
-            self.ask(&origin, kind, &page, questions, &mut random)?;
-            self.put(&origin, Request::Examine { kind, page })?;
+            for case in self.cases_of(&origin, made, &mut random) {
+                self.put_case(case)?;
+            }
+        }
+        self.finish()
+    }
+
+    /// A forged page is read, whole and two vectors of it, and examined.
+    fn cases_of(&mut self, origin: &str, made: Forged, random: &mut Random) -> Vec<Case> {
+        let Forged { kind, page, room, touched, .. } = made;
+        let output = lend(kind, room, random);
+        let questions = two(&page, touched, random);
+        let mut cases = self.questioned(origin, kind, &page, questions, random);
+        cases.push(Case::of(origin, Request::Read { kind, page: page.clone(), output }));
+        cases.push(Case::of(origin, Request::Examine { kind, page }));
+        cases
+    }
+
+    /// Compares pages in which sums leave the kind's signed range, beside other
+    /// faults too, or just stay in it.
+    pub fn sums(&mut self, seed: u64) -> Result<(), String> {
+        for kind in KINDS {
+            for forgery in 0..SUM_FORGERIES.len() {
+                for turn in 0..SUM_PAGES {
+                    let index = (kind.bits() * 100 + forgery) * 10_000 + turn;
+                    let mut random = Random::of_case(seed, SUMS, index as u64);
+                    let made = summed(forgery, kind, &mut random);
+                    let origin = format!("seed {seed}, sums ({}), turn {turn}", made.note);
+                    for case in self.cases_of(&origin, made, &mut random) {
+                        self.put_case(Case { traced: true, ..case })?;
+                    }
+                }
+            }
         }
         self.finish()
     }
@@ -189,6 +229,50 @@ impl<'a> Comparison<'a> {
             }
         }
         self.finish()
+    }
+
+    /// Compares pages at every width of each kind in which a sum just leaves the
+    /// range, at a position known before, and in which none does.
+    pub fn beyond(&mut self, seed: u64) -> Result<(), String> {
+        for kind in KINDS {
+            for width in 1..=kind.bits() {
+                for count in COUNTS {
+                    let index = (kind.bits() * 100 + width) as u64 * 10_000 + count as u64;
+                    let mut random = Random::of_case(seed, BEYOND, index);
+                    let made = beyond_at(kind, width, count, &mut random);
+                    let origin = format!("seed {seed}, beyond at width {width}, {count} values");
+                    self.put_beyond(&origin, kind, width, count, made, &mut random)?;
+                }
+            }
+        }
+        self.finish()
+    }
+
+    /// Puts the two pages of a sum that just leaves the range.
+    fn put_beyond(
+        &mut self,
+        origin: &str,
+        kind: Kind,
+        width: usize,
+        count: usize,
+        made: Beyond,
+        random: &mut Random,
+    ) -> Result<(), String> {
+        let Beyond { position, page, within } = made;
+        let refused = refuse_at(Fault::SumLeavesRange, 0, position);
+        let output = lend(kind, count, random);
+        let left = value_bytes(kind, &output);
+        let read = Request::Read { kind, page: page.clone(), output: output.clone() };
+        let case = Case::wanted(origin, read, refused, left.clone());
+        self.put_case(Case { width: Some(width), ..case })?;
+        let vector = Request::ReadVector { kind, page: page.clone(), number: 0, output };
+        self.put_wanted(origin, vector, refused, left)?;
+        self.put_wanted(origin, Request::Examine { kind, page }, refused, Vec::new())?;
+
+        let output = lend(kind, count, random);
+        let read = Request::Read { kind, page: within.clone(), output };
+        self.put_case(Case { width: Some(width), ..Case::of(origin, read) })?;
+        self.put(origin, Request::Examine { kind, page: within })
     }
 
     /// Compares columns of every shape, measured and written into every room:
@@ -326,13 +410,28 @@ impl<'a> Comparison<'a> {
         questions: Vec<Question>,
         random: &mut Random,
     ) -> Result<(), String> {
-        let accepted = self.read_alone(origin, kind, page);
-        for Question { number, room } in questions {
-            let output = lend(kind, room, random);
-            let request = Request::ReadVector { kind, page: page.to_vec(), number, output };
-            self.put_case(Case { faulty: !accepted, ..Case::of(origin, request) })?;
+        for case in self.questioned(origin, kind, page, questions, random) {
+            self.put_case(case)?;
         }
         Ok(())
+    }
+
+    /// What asks for vectors of a page.
+    fn questioned(
+        &mut self,
+        origin: &str,
+        kind: Kind,
+        page: &[u8],
+        questions: Vec<Question>,
+        random: &mut Random,
+    ) -> Vec<Case> {
+        let faulty = !self.read_alone(origin, kind, page);
+        let case = |Question { number, room }| {
+            let output = lend(kind, room, random);
+            let request = Request::ReadVector { kind, page: page.to_vec(), number, output };
+            Case { faulty, ..Case::of(origin, request) }
+        };
+        questions.into_iter().map(case).collect()
     }
 
     /// This program must agree with itself: each vector of a page, read alone,
@@ -366,8 +465,7 @@ impl<'a> Comparison<'a> {
         outcome: Outcome,
         output: Vec<u8>,
     ) -> Result<(), String> {
-        let wanted = Some(Reply { answer: answer_of(outcome), output });
-        self.put_case(Case { wanted, ..Case::of(origin, request) })
+        self.put_case(Case::wanted(origin, request, outcome, output))
     }
 
     fn put_case(&mut self, case: Case) -> Result<(), String> {
@@ -420,10 +518,13 @@ impl<'a> Comparison<'a> {
         if case.faulty && own.0.is_ok() {
             self.tally.count_spared(case.request.kind());
         }
-        if let (Some(width), true) = (case.width, own.0.is_ok()) {
-            self.tally.count_width(case.request.kind(), width);
+        if let Some(width) = case.width {
+            self.tally.count_width(case.request.kind(), width, own.0);
         }
         self.count_room(&case.request);
+        if case.traced {
+            self.count_traces(case);
+        }
         if other != Some(&own.1) {
             self.report(&describe(case, own, other));
         }
@@ -443,6 +544,17 @@ impl<'a> Comparison<'a> {
                 Err(format!("the program takes the frame of {} as malformed", case.origin))
             }
             Some(_) => Ok(()),
+        }
+    }
+
+    /// Counts what a request shows of row 17. What no request of its call can
+    /// show is a contradiction: above all a page refused by 17 that the examiner
+    /// would accept without that row.
+    fn count_traces(&mut self, case: &Case) {
+        let (call, shown) = (case.request.call(), sums::shown(&case.request));
+        self.tally.count_traces(call, case.request.kind(), &shown);
+        if let Some(trace) = shown.iter().find(|trace| !trace.shown_by().contains(&call)) {
+            self.report(&format!("{}: {} shows {trace:?}", case.origin, call.name()));
         }
     }
 

@@ -4,7 +4,8 @@
 use crate::floats::Kind;
 use crate::layout::{self, pack, push_number};
 use crate::random::Random;
-use crate::read::parse;
+use crate::read::{parse, sums};
+use crate::sums::modulo;
 use crate::write::fit;
 
 /// A page in parts, each of which may be changed by itself.
@@ -45,8 +46,10 @@ pub struct Part {
 }
 
 impl Part {
+    /// The whole numbers, modulo 2^W where an earlier forgery lets sums leave
+    /// the kind's range.
     pub fn wholes(&self, kind: Kind) -> Vec<i64> {
-        self.fields.iter().map(|field| kind.plus(self.frame, *field)).collect()
+        self.fields.iter().map(|field| modulo(kind, self.frame, *field)).collect()
     }
 
     /// Takes other whole numbers, with the frame and width that fit them.
@@ -149,7 +152,7 @@ pub fn true_exception(kind: Kind, random: &mut Random) -> u64 {
 impl Draft {
     /// The parts of a sound page; nothing if the page isn't sound.
     pub fn of_page(kind: Kind, page: &[u8]) -> Option<Draft> {
-        let page = parse(kind, page).ok()?;
+        let page = parse(sums, kind, page).ok()?;
         let vectors: Vec<Part> = page
             .vectors
             .into_iter()

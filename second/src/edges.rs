@@ -94,7 +94,7 @@ fn mistaken(
     if value == kind.sign() || scaled.is_nan() || scaled.abs() > kind.largest() {
         return None;
     }
-    let most = i64::MAX >> (64 - kind.bits());
+    let most = kind.most();
     let whole = (rounding(scaled)? as i64).clamp(-most - 1, most);
     (kind.back(whole, exponent, factor) == value).then_some(whole)
 }

@@ -1,6 +1,6 @@
 //! The two kinds of floats, and the way from a value to a whole number and
 //! back (document 01, "From a value to a whole number", with the fast rounding
-//! of document 02's T-05).
+//! of document 02's T-05, and the reading rule's sum as its T-06 has it).
 //!
 //! Values travel as bit patterns in a `u64` (the low 32 bits for the 32-bit
 //! kind), whole numbers as `i64`. The arithmetic is Rust's own on `f32` and
@@ -117,12 +117,26 @@ impl Kind {
         }
     }
 
-    /// The reading rule: frame plus field modulo 2^W, read as signed.
-    pub fn plus(self, frame: i64, field: u64) -> i64 {
+    /// The kind's bits read as signed, in two's complement.
+    pub fn signed(self, bits: u64) -> i64 {
         match self {
-            Kind::Single => i64::from((frame as u32).wrapping_add(field as u32) as i32),
-            Kind::Double => (frame as u64).wrapping_add(field) as i64,
+            Kind::Single => i64::from(bits as u32 as i32),
+            Kind::Double => bits as i64,
         }
+    }
+
+    /// The largest whole number of the kind's signed range, 2^(W-1) - 1. The
+    /// smallest is -2^(W-1).
+    pub fn most(self) -> i64 {
+        i64::MAX >> (64 - self.bits())
+    }
+
+    /// The reading rule: frame plus field, or nothing if that leaves the kind's
+    /// signed range. The sum is taken in a wider type, so that it can.
+    pub fn plus(self, frame: i64, field: u64) -> Option<i64> {
+        let sum = i128::from(frame) + i128::from(field);
+        let most = i128::from(self.most());
+        (-most - 1..=most).contains(&sum).then_some(sum as i64)
     }
 
     /// The float of this kind nearest to a 64-bit float.
@@ -381,8 +395,7 @@ mod tests {
             [(Kind::Single, 0x4D4C_CCCC, 2, 1), (Kind::Double, 0x43A9_9999_9999_9999, 6, 5)]
         {
             assert_eq!(kind.scaled(value, exponent, factor), kind.largest());
-            let most = i64::MAX >> (64 - kind.bits());
-            assert_eq!(kind.back(most, exponent, factor), value);
+            assert_eq!(kind.back(kind.most(), exponent, factor), value);
             assert_eq!(kind.whole(value, exponent, factor), None);
         }
     }
@@ -401,10 +414,29 @@ mod tests {
     }
 
     #[test]
-    fn frame_plus_field_wraps_in_the_kind() {
-        assert_eq!(Kind::Single.plus(i64::from(i32::MAX), 1), i64::from(i32::MIN));
-        assert_eq!(Kind::Single.plus(-1, 2), 1);
-        assert_eq!(Kind::Double.plus(i64::MAX, 1), i64::MIN);
-        assert_eq!(Kind::Double.plus(i64::MIN, u64::MAX), i64::MAX);
+    fn frame_plus_field_stays_in_the_kind_or_is_nothing() {
+        for (kind, most) in [(Kind::Single, i32::MAX.into()), (Kind::Double, i64::MAX)] {
+            let (least, widest) = (-most - 1, kind.mask());
+            assert_eq!(kind.plus(most, 0), Some(most));
+            assert_eq!(kind.plus(most, 1), None);
+            assert_eq!(kind.plus(most - 1, 1), Some(most));
+            assert_eq!(kind.plus(most, widest), None);
+            assert_eq!(kind.plus(-1, 2), Some(1));
+            assert_eq!(kind.plus(-1, most as u64 + 1), Some(most));
+            assert_eq!(kind.plus(-1, most as u64 + 2), None);
+            assert_eq!(kind.plus(least, widest), Some(most));
+            assert_eq!(kind.plus(least + 1, widest), None);
+            assert_eq!(kind.plus(least, 0), Some(least));
+        }
+    }
+
+    #[test]
+    fn bits_read_as_signed() {
+        assert_eq!(Kind::Single.signed(0xFFFF_FFFF), -1);
+        assert_eq!(Kind::Single.signed(0x8000_0000), i32::MIN.into());
+        assert_eq!(Kind::Single.signed(0x7FFF_FFFF), Kind::Single.most());
+        assert_eq!(Kind::Double.signed(u64::MAX), -1);
+        assert_eq!(Kind::Double.signed(1 << 63), i64::MIN);
+        assert_eq!(Kind::Double.signed(u64::MAX >> 1), Kind::Double.most());
     }
 }

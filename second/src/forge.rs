@@ -6,7 +6,9 @@ use crate::columns::{any_pair, sound_column};
 use crate::draft::{true_exception, Draft, Part};
 use crate::floats::{Kind, KINDS};
 use crate::layout;
+use crate::overrun::{overrun, overrun_from, overrun_listed, reach, Stand};
 use crate::random::Random;
+use crate::sums::modulo;
 use crate::write::write;
 
 /// A page to read and examine, with the lent output's length in values.
@@ -159,7 +161,7 @@ const FORGERIES: &[(&str, Forge)] = &[
         put_unlisted(draft, random, whole);
     }),
     ("any whole number", |draft, random| {
-        let whole = draft.kind.plus(0, random.of_bits(64));
+        let whole = draft.kind.signed(random.of_bits(64));
         put_unlisted(draft, random, whole);
     }),
     ("a needless exception", needless),
@@ -172,20 +174,7 @@ const FORGERIES: &[(&str, Forge)] = &[
         let at = random.below(vector.exceptions.len());
         vector.exceptions[at] = vector.back(kind, whole);
     }),
-    ("another number at a listed position", |draft, random| {
-        let kind = draft.kind;
-        let wanted = random.between(1, 4);
-        let vector = draft.any(random);
-        vector.need_exceptions(kind, wanted, random);
-        let position = *random.choose(&vector.positions);
-        let other = match random.below(4) {
-            0 => 0,
-            1 => kind.plus(vector.stand_in(kind), 1),
-            2 => *random.choose(&vector.wholes(kind)),
-            _ => kind.plus(0, random.of_bits(64)),
-        };
-        vector.put(kind, &[position], other);
-    }),
+    ("another number at a listed position", no_stand_in),
     ("the last number as stand-in", |draft, random| {
         let kind = draft.kind;
         let vector = several_listed(draft, random);
@@ -207,12 +196,9 @@ const FORGERIES: &[(&str, Forge)] = &[
         let vector = draft.any(random);
         move_frame(vector, kind, 0u64.wrapping_sub(less));
     }),
-    ("frame too large, fields wrapping", |draft, random| {
-        let more = if random.one_in(2) { 1 } else { 1 + random.of_bits(12) };
-        let kind = draft.kind;
-        let vector = draft.any(random);
-        move_frame(vector, kind, more);
-    }),
+    ("frame too large, fields wrapping", wrap),
+    ("sums beyond the range", overrun),
+    ("sums at the end of the range", reach),
     ("width too large", |draft, random| {
         let most = draft.kind.bits();
         let all = random.one_in(4);
@@ -228,6 +214,45 @@ const FORGERIES: &[(&str, Forge)] = &[
         (vector.exponent, vector.factor) = (pair.exponent as u8, pair.factor as u8);
     }),
     ("untouched", |_, _| {}),
+];
+
+/// Forgeries for row 17, alone and beside others; each is of one vector, but for
+/// what belongs to no vector or to a later one.
+pub const SUM_FORGERIES: [(&str, Forge); 11] = [
+    ("sums beyond the range", overrun),
+    ("sums beyond the range where listed", overrun_listed),
+    ("sums at the end of the range", reach),
+    ("fields wrapping", wrap),
+    ("sums beyond the range, and a position at fault", |draft, random| {
+        overrun_listed(draft, random);
+        spoil_positions(draft, random);
+    }),
+    ("sums beyond the range, and a fault in a later vector", |draft, random| {
+        overrun(draft, random);
+        spoil_later(draft, random);
+    }),
+    ("sums beyond the range, and bytes after", |draft, random| {
+        overrun(draft, random);
+        draft.tail = random.some_bytes(1, 9);
+    }),
+    ("sums beyond the range, and an unused bit", |draft, random| {
+        draft.focus = Some(draft.vectors.len() - 1);
+        overrun_from(draft, random, Stand::HighNarrow);
+        unused_bit(draft, random);
+    }),
+    ("fields wrapping, and a whole number too precise", |draft, random| {
+        let whole = too_precise(draft.kind, random);
+        put_unlisted(draft, random, whole);
+        wrap(draft, random);
+    }),
+    ("fields wrapping, and a needless exception", |draft, random| {
+        needless(draft, random);
+        wrap(draft, random);
+    }),
+    ("fields wrapping, and another number at a listed position", |draft, random| {
+        no_stand_in(draft, random);
+        wrap(draft, random);
+    }),
 ];
 
 fn not_zero(random: &mut Random) -> u8 {
@@ -355,10 +380,59 @@ fn needless(draft: &mut Draft, random: &mut Random) {
     });
 }
 
-/// Moves the frame and keeps the whole numbers: the fields take up the
-/// difference modulo 2^W, in the width that holds them.
+/// Puts another number than the stand-in at a listed position, if chance has it.
+fn no_stand_in(draft: &mut Draft, random: &mut Random) {
+    let kind = draft.kind;
+    let wanted = random.between(1, 4);
+    let vector = draft.any(random);
+    vector.need_exceptions(kind, wanted, random);
+    let position = *random.choose(&vector.positions);
+    let other = match random.below(4) {
+        0 => 0,
+        1 => modulo(kind, vector.stand_in(kind), 1),
+        2 => *random.choose(&vector.wholes(kind)),
+        _ => kind.signed(random.of_bits(64)),
+    };
+    vector.put(kind, &[position], other);
+}
+
+/// Lets a listed position be too high, or two of them change places, and leaves
+/// all else as it is.
+fn spoil_positions(draft: &mut Draft, random: &mut Random) {
+    let vector = draft.any(random);
+    let last = vector.positions.len() - 1;
+    if last > 0 && random.one_in(2) {
+        vector.positions.swap(random.below(last), last);
+    } else {
+        vector.positions[random.below(last + 1)] = vector.fields.len() as u16;
+    }
+}
+
+/// Puts a fault into a vector behind the one that was forged, if there is one.
+fn spoil_later(draft: &mut Draft, random: &mut Random) {
+    let later = draft.touched.map_or(0, |v| v + 1);
+    if later < draft.vectors.len() {
+        let v = random.between(later, draft.vectors.len() - 1);
+        match random.below(3) {
+            0 => draft.shifts[v] = 1,
+            1 => draft.vectors[v].exponent = 99,
+            _ => draft.vectors[v].width = 99,
+        }
+    }
+}
+
+/// Puts the frame above the smallest whole number, so that fields wrap.
+fn wrap(draft: &mut Draft, random: &mut Random) {
+    let more = if random.one_in(2) { 1 } else { 1 + random.of_bits(12) };
+    let kind = draft.kind;
+    let vector = draft.any(random);
+    move_frame(vector, kind, more);
+}
+
+/// Moves the frame and keeps the whole numbers modulo 2^W: the fields take up
+/// the difference, in the width that holds them.
 fn move_frame(vector: &mut Part, kind: Kind, by: u64) {
-    vector.frame = kind.plus(vector.frame, by);
+    vector.frame = modulo(kind, vector.frame, by);
     for field in &mut vector.fields {
         *field = field.wrapping_sub(by) & kind.mask();
     }
@@ -366,7 +440,8 @@ fn move_frame(vector: &mut Part, kind: Kind, by: u64) {
     vector.width = layout::width_of(largest) as u8;
 }
 
-/// Any pair, frame, width, fields and exceptions that pass the reader.
+/// Any pair, frame, width, fields and exceptions that pass the reader, but for
+/// sums beyond the range.
 fn wild(draft: &mut Draft, random: &mut Random) {
     let kind = draft.kind;
     let pair = any_pair(kind, random);
@@ -374,7 +449,7 @@ fn wild(draft: &mut Draft, random: &mut Random) {
     let width = random.between(0, kind.bits());
     let listed = *random.choose(&[0, 2, 5]);
     (vector.exponent, vector.factor) = (pair.exponent as u8, pair.factor as u8);
-    vector.frame = kind.plus(0, random.of_bits(64));
+    vector.frame = kind.signed(random.of_bits(64));
     vector.width = width as u8;
     vector.positions.clear();
     vector.exceptions.clear();
@@ -468,6 +543,25 @@ fn page_room(page: &[u8], random: &mut Random) -> usize {
         3..=9 => count,
         _ => count + random.between(1, 16),
     }
+}
+
+/// The page of one of the forgeries for row 17: small, of several vectors
+/// mostly. The first vector is forged, the last or any.
+pub fn summed(forgery: usize, kind: Kind, random: &mut Random) -> Forged {
+    let (s, count) = (*random.choose(&[3, 3, 3, 4, 5]), random.between(9, 70));
+    let (note, forge) = SUM_FORGERIES[forgery];
+    let sound = sound_page(kind, s, count, random);
+    let mut draft = Draft::of_page(kind, &sound).expect("the page of a sound column");
+    let last = draft.vectors.len() - 1;
+    draft.focus = Some(match random.below(3) {
+        0 => 0,
+        1 => last,
+        _ => random.below(last + 1),
+    });
+    forge(&mut draft, random);
+    let page = draft.bytes();
+    let room = page_room(&page, random);
+    Forged { note: note.into(), kind, page, room, touched: draft.touched }
 }
 
 /// Every how many pages a sound page gets several changes.

@@ -1,7 +1,7 @@
 //! `second PROGRAM`: drives a program that answers frames over many columns
 //! and pages, compares every answer and every byte with this program's own,
-//! and fails if one differs or if a row of the table, a width, a room, a fate of
-//! older pages or what tells mistakes apart was never met.
+//! and fails if one differs or if a row of the table, a case of row 17, a width, a
+//! room, a fate of older pages or what tells mistakes apart was never met.
 
 use std::io::{self, BufReader};
 use std::path::PathBuf;
@@ -104,7 +104,7 @@ fn run(options: &Options) -> Result<bool, String> {
     for (turn, seed) in options.seeds.iter().enumerate() {
         let columns = share(options.columns, turn, options.seeds.len());
         let pages = share(options.pages, turn, options.seeds.len());
-        println!("seed     {seed}: {columns} columns, {pages} damaged or forged pages, small ones, every width, every room, choices, older pages");
+        println!("seed     {seed}: {columns} columns, {pages} damaged or forged pages, small ones, every width, every room, choices, older pages, sums");
         comparison.columns(*seed, columns)?;
         comparison.pages(*seed, pages)?;
         comparison.worn(*seed)?;
@@ -112,6 +112,8 @@ fn run(options: &Options) -> Result<bool, String> {
         comparison.rooms(*seed)?;
         comparison.choices(*seed)?;
         comparison.older(*seed)?;
+        comparison.sums(*seed)?;
+        comparison.beyond(*seed)?;
     }
     println!("\n{}", comparison.tally.table());
 

@@ -1,19 +1,19 @@
 //! The reader: rows 1 to 6; 7 for the offsets; then each vector in turn, 8,
-//! 7 for metadata, 9 to 12, 7 for data, 13; then 14, then 15.
+//! 7 for metadata, 9 to 12, 7 for data, 13, 17; then 14, then 15.
 
 use crate::answer::{refuse, refuse_at, refuse_in, Fault, Outcome, Refusal};
 use crate::floats::Kind;
 use crate::layout::{self, number};
 use crate::write::check_pair;
 
-/// A page that has passed rows 1 to 14.
+/// A page that has passed rows 1 to 14 and 17.
 pub struct Page {
     pub s: u8,
     pub count: usize,
     pub vectors: Vec<Vector>,
 }
 
-/// A vector as it stands in the page.
+/// A vector as it stands in the page, and its whole numbers.
 pub struct Vector {
     pub exponent: u8,
     pub factor: u8,
@@ -23,20 +23,31 @@ pub struct Vector {
     pub unused_bit: bool,
     pub positions: Vec<usize>,
     pub exceptions: Vec<u64>,
+    /// By the reading rule, at listed positions too.
+    pub wholes: Vec<i64>,
+}
+
+/// A way from a vector's frame and fields to its whole numbers; or the position
+/// that row 17 refuses.
+pub type Sums = fn(Kind, &Vector) -> Result<Vec<i64>, usize>;
+
+/// The right way: each frame plus field, listed or not. The first that leaves
+/// the kind's signed range is refused.
+pub fn sums(kind: Kind, vector: &Vector) -> Result<Vec<i64>, usize> {
+    let mut wholes = Vec::new();
+    for (position, field) in vector.fields.iter().enumerate() {
+        wholes.push(kind.plus(vector.frame, *field).ok_or(position)?);
+    }
+    Ok(wholes)
 }
 
 impl Vector {
-    /// The whole numbers by the reading rule.
-    pub fn wholes(&self, kind: Kind) -> Vec<i64> {
-        self.fields.iter().map(|field| kind.plus(self.frame, *field)).collect()
-    }
-
     /// The values: whole numbers brought back, listed positions overwritten.
     pub fn values(&self, kind: Kind) -> Vec<u64> {
         let mut values: Vec<u64> = self
-            .wholes(kind)
-            .into_iter()
-            .map(|whole| kind.back(whole, self.exponent.into(), self.factor.into()))
+            .wholes
+            .iter()
+            .map(|whole| kind.back(*whole, self.exponent.into(), self.factor.into()))
             .collect();
         for (position, value) in self.positions.iter().zip(&self.exceptions) {
             values[*position] = *value;
@@ -47,7 +58,12 @@ impl Vector {
 
 /// Reads a page into the output, or refuses and leaves it as it came.
 pub fn read(kind: Kind, bytes: &[u8], output: &mut [u64]) -> Outcome {
-    let page = parse(kind, bytes)?;
+    read_by(sums, kind, bytes, output)
+}
+
+/// The same, with the sums taken in some way.
+pub fn read_by(sums: Sums, kind: Kind, bytes: &[u8], output: &mut [u64]) -> Outcome {
+    let page = parse(sums, kind, bytes)?;
     if output.len() < page.count {
         return refuse(Fault::OutputTooShort);
     }
@@ -56,8 +72,8 @@ pub fn read(kind: Kind, bytes: &[u8], output: &mut [u64]) -> Outcome {
     Ok(page.count)
 }
 
-/// Rows 1 to 14 in document 01's order.
-pub fn parse(kind: Kind, bytes: &[u8]) -> Result<Page, Refusal> {
+/// Rows 1 to 14 and 17 in their order.
+pub fn parse(sums: Sums, kind: Kind, bytes: &[u8]) -> Result<Page, Refusal> {
     let (s, count) = parse_header(bytes)?;
     let body = &bytes[layout::HEADER..];
     let offsets = parse_offsets(body, layout::vectors(count, s))?;
@@ -70,7 +86,7 @@ pub fn parse(kind: Kind, bytes: &[u8]) -> Result<Page, Refusal> {
         }
         let values = layout::values_in(v, count, s);
         let parts = parse_parts(kind, &body[next..], values, v)?;
-        page.vectors.push(parts.vector(kind)?);
+        page.vectors.push(parts.vector(sums, kind)?);
         next += parts.size;
     }
     if body.len() > next {
@@ -113,7 +129,7 @@ pub fn parse_offsets(body: &[u8], vectors: usize) -> Result<Vec<usize>, Refusal>
 
 /// The parts of one vector, which lie inside the page.
 pub struct Parts<'a> {
-    v: usize,
+    pub v: usize,
     values: usize,
     exponent: u8,
     factor: u8,
@@ -135,8 +151,7 @@ pub fn parse_parts(kind: Kind, rest: &[u8], values: usize, v: usize) -> Result<P
     }
     let (exponent, factor) = (rest[0], rest[1]);
     let listed = number(&rest[2..4]) as usize;
-    // Read as signed, in the kind's bits.
-    let frame = kind.plus(0, number(&rest[4..4 + kind.size()]));
+    let frame = kind.signed(number(&rest[4..4 + kind.size()]));
     let width = usize::from(rest[4 + kind.size()]);
 
     check_pair(kind, exponent, factor, v)?;
@@ -159,18 +174,30 @@ pub fn parse_parts(kind: Kind, rest: &[u8], values: usize, v: usize) -> Result<P
 }
 
 impl Parts<'_> {
-    /// Row 13, then the vector.
-    pub fn vector(&self, kind: Kind) -> Result<Vector, Refusal> {
-        Ok(Vector {
-            positions: parse_positions(self.list, self.values, self.v)?,
+    /// Rows 13 and 17, then the vector.
+    pub fn vector(&self, sums: Sums, kind: Kind) -> Result<Vector, Refusal> {
+        let positions = parse_positions(self.list, self.values, self.v)?;
+        let mut vector = Vector { positions, ..self.unchecked(kind) };
+        match sums(kind, &vector) {
+            Ok(wholes) => vector.wholes = wholes,
+            Err(position) => return refuse_at(Fault::SumLeavesRange, self.v, position),
+        }
+        Ok(vector)
+    }
+
+    /// The vector before rows 13 and 17, with no positions and whole numbers.
+    pub fn unchecked(&self, kind: Kind) -> Vector {
+        Vector {
             exponent: self.exponent,
             factor: self.factor,
             frame: self.frame,
             width: self.width,
             fields: layout::unpack(self.packed, self.values, self.width),
             unused_bit: layout::unused_bit_set(self.packed, self.values, self.width),
+            positions: Vec::new(),
             exceptions: self.patterns.chunks_exact(kind.size()).map(number).collect(),
-        })
+            wholes: Vec::new(),
+        }
     }
 }
 

@@ -1,17 +1,32 @@
 //! The reading of one vector by its number (document 02, T-01): rows 1 to 6;
 //! 30; 7 for the offsets; 8 if it starts before their end; for it alone 7 for
 //! metadata, 9 to 12, 7 for data; 8 again if it doesn't end where the next
-//! offset, or the page's end, says; 13; 15.
+//! offset, or the page's end, says; 13; 17 (T-06); 15.
 
 use crate::answer::{refuse, refuse_in, Fault, Outcome, Refusal};
 use crate::floats::Kind;
 use crate::layout;
-use crate::read::{parse_header, parse_offsets, parse_parts, Vector};
+use crate::read::{parse_header, parse_offsets, parse_parts, sums, Parts, Sums};
 
 /// Reads one vector into the front of the output, or refuses and leaves the
 /// output as it came.
 pub fn read_vector(kind: Kind, bytes: &[u8], number: u64, output: &mut [u64]) -> Outcome {
-    let values = parse_one(kind, bytes, number)?.values(kind);
+    read_vector_by(sums, kind, bytes, number, output)
+}
+
+/// The same, with the sums taken in some way.
+pub fn read_vector_by(
+    sums: Sums,
+    kind: Kind,
+    bytes: &[u8],
+    number: u64,
+    output: &mut [u64],
+) -> Outcome {
+    let (parts, ends) = find(kind, bytes, number)?;
+    if !ends {
+        return refuse_in(Fault::EndsElsewhere, parts.v);
+    }
+    let values = parts.vector(sums, kind)?.values(kind);
     if output.len() < values.len() {
         return refuse(Fault::OutputTooShort);
     }
@@ -19,8 +34,10 @@ pub fn read_vector(kind: Kind, bytes: &[u8], number: u64, output: &mut [u64]) ->
     Ok(values.len())
 }
 
-/// All rows but 15. What the page holds of other vectors is not looked at.
-fn parse_one(kind: Kind, bytes: &[u8], number: u64) -> Result<Vector, Refusal> {
+/// The rows up to 7 for data; and whether the vector ends where the next offset,
+/// or the page's end, says. What the page holds of other vectors is not looked
+/// at.
+pub fn find(kind: Kind, bytes: &[u8], number: u64) -> Result<(Parts<'_>, bool), Refusal> {
     let (s, count) = parse_header(bytes)?;
     let body = &bytes[layout::HEADER..];
     let vectors = layout::vectors(count, s);
@@ -37,8 +54,6 @@ fn parse_one(kind: Kind, bytes: &[u8], number: u64) -> Result<Vector, Refusal> {
     let rest = body.get(start..).unwrap_or(&[]);
     let parts = parse_parts(kind, rest, layout::values_in(v, count, s), v)?;
     let end = offsets.get(v + 1).copied().unwrap_or(body.len());
-    if start + parts.size != end {
-        return refuse_in(Fault::EndsElsewhere, v);
-    }
-    parts.vector(kind)
+    let ends = start + parts.size == end;
+    Ok((parts, ends))
 }

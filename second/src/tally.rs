@@ -1,14 +1,16 @@
-//! Counts which answers were given by which call, at which widths, in which
-//! rooms, for which choices, edges and older pages, and says what was never met.
+//! Counts which answers were given by which call, in which cases of row 17, at
+//! which widths, in which rooms, for which choices, edges and older pages, and
+//! says what was never met.
 
 use std::fmt::Write;
 
-use crate::answer::{Call, Outcome, CALLS, TABLE};
+use crate::answer::{Call, Fault, Outcome, CALLS, TABLE};
 use crate::choices::{Sight, SIGHTS};
 use crate::edges::{self, EDGES};
 use crate::floats::{Kind, Pair, KINDS};
 use crate::older::{Fate, FATES};
 use crate::rooms::{Room, Shape, ROOMS, SHAPES};
+use crate::sums::{Trace, TRACES};
 
 /// Counts of one line of the table, by call and kind.
 #[derive(Clone, Copy, Default)]
@@ -21,10 +23,14 @@ struct Counts {
 pub struct Tally {
     done: Counts,
     refused: Vec<Counts>,
+    /// What requests showed of row 17.
+    traces: Vec<Counts>,
     /// Vectors that were read alone from pages that reading as a whole refuses.
     spared: [u64; KINDS.len()],
-    /// How many pages were read at each width, of those made for it.
+    /// How many pages were read at each width, of those made for it, and how
+    /// many refused by row 17.
     widths: [[u64; WIDTHS]; KINDS.len()],
+    beyond: [[u64; WIDTHS]; KINDS.len()],
     /// How often each room was lent for a page of each shape.
     rooms: [[[u64; KINDS.len()]; SHAPES.len()]; ROOMS.len()],
     /// How many vectors to choose for showed what.
@@ -45,13 +51,28 @@ const WIDTHS: usize = 65;
 impl Default for Tally {
     fn default() -> Tally {
         let refused = vec![Counts::default(); TABLE.len()];
+        let traces = vec![Counts::default(); TRACES.len()];
         let (spared, widths) = ([0; KINDS.len()], [[0; WIDTHS]; KINDS.len()]);
+        let beyond = widths;
         let rooms = [[[0; KINDS.len()]; SHAPES.len()]; ROOMS.len()];
         let sights = [[0; KINDS.len()]; SIGHTS.len()];
         let (edges, powers) = ([[0; KINDS.len()]; EDGES.len()], [[0; WIDTHS]; KINDS.len()]);
         let (fates, later_fates) = ([[0; KINDS.len()]; FATES.len()], [0; FATES.len()]);
         let done = Counts::default();
-        Tally { done, refused, spared, widths, rooms, sights, edges, powers, fates, later_fates }
+        Tally {
+            done,
+            refused,
+            traces,
+            spared,
+            widths,
+            beyond,
+            rooms,
+            sights,
+            edges,
+            powers,
+            fates,
+            later_fates,
+        }
     }
 }
 
@@ -67,12 +88,24 @@ impl Tally {
         }
     }
 
+    pub fn count_traces(&mut self, call: Call, kind: Kind, traces: &[Trace]) {
+        for trace in traces {
+            self.traces[*trace as usize].by[call as usize][kind as usize] += 1;
+        }
+    }
+
     pub fn count_spared(&mut self, kind: Kind) {
         self.spared[kind as usize] += 1;
     }
 
-    pub fn count_width(&mut self, kind: Kind, width: usize) {
-        self.widths[kind as usize][width] += 1;
+    pub fn count_width(&mut self, kind: Kind, width: usize, outcome: Outcome) {
+        match outcome {
+            Ok(_) => self.widths[kind as usize][width] += 1,
+            Err(refusal) if refusal.fault == Fault::SumLeavesRange => {
+                self.beyond[kind as usize][width] += 1;
+            }
+            Err(_) => {}
+        }
     }
 
     pub fn count_room(&mut self, kind: Kind, shape: Shape, room: Room) {
@@ -150,9 +183,25 @@ impl Tally {
         missing
     }
 
-    /// How many pages were read at each width that a kind has.
-    fn widths(&self, kind: Kind) -> &[u64] {
-        &self.widths[kind as usize][..=kind.bits()]
+    /// How many pages were read at each width that a kind has, and how many
+    /// refused by row 17 at each but 0, with what to say of them.
+    fn widths(&self, kind: Kind) -> [(usize, &[u64], &'static str); 2] {
+        let (read, beyond) = (&self.widths[kind as usize], &self.beyond[kind as usize]);
+        let bits = kind.bits();
+        [(0, &read[..=bits], "read"), (1, &beyond[1..=bits], "refused by 17")]
+    }
+
+    /// Every width at which no page was read, or none refused by row 17.
+    fn missing_widths(&self) -> Vec<String> {
+        let mut missing = Vec::new();
+        for kind in KINDS {
+            for (least, counts, what) in self.widths(kind) {
+                let never = (least..).zip(counts).filter(|(_, count)| **count == 0);
+                let text = |(w, _)| format!("a page {what} at width {w}, {}-bit", kind.bits());
+                missing.extend(never.map(text));
+            }
+        }
+        missing
     }
 
     /// Every room that was never lent for a page of a shape.
@@ -179,17 +228,17 @@ impl Tally {
         missing.extend(self.missing_sights());
         missing.extend(self.missing_edges());
         missing.extend(self.missing_fates());
+        missing.extend(self.missing_widths());
         for kind in KINDS.into_iter().filter(|kind| self.spared[*kind as usize] == 0) {
             missing.push(format!("a vector of a page that read refuses, {}-bit", kind.bits()));
-        }
-        for kind in KINDS {
-            let never = self.widths(kind).iter().enumerate().filter(|(_, count)| **count == 0);
-            missing.extend(never.map(|(w, _)| format!("width {w} by read, {}-bit", kind.bits())));
         }
         let done = (0, "done", &CALLS[..], false, &self.done);
         let lines = TABLE.iter().zip(&self.refused);
         let refused = lines.map(|(l, counts)| (l.row, l.text, l.given_by, l.of_vector, counts));
-        for (row, text, given_by, of_vector, counts) in std::iter::once(done).chain(refused) {
+        let lines = TRACES.iter().zip(&self.traces);
+        let traces = lines.map(|((t, text), counts)| (17, *text, t.shown_by(), false, counts));
+        let all = std::iter::once(done).chain(refused).chain(traces);
+        for (row, text, given_by, of_vector, counts) in all {
             for call in given_by {
                 for kind in KINDS {
                     if counts.by[*call as usize][kind as usize] == 0 {
@@ -220,14 +269,22 @@ impl Tally {
             let later = line.of_vector.then(|| counts.later.iter().sum());
             push_line(&mut text, line.row, line.text, line.given_by, later, counts);
         }
+        text.push_str("\nwhat pages made for row 17 showed\n");
+        for ((trace, when), counts) in TRACES.iter().zip(&self.traces) {
+            push_line(&mut text, 17, when, trace.shown_by(), None, counts);
+        }
+        text.push('\n');
         let [single, double] = self.spared;
         let _ = writeln!(
             text,
             "vectors done of pages that read refuses: {single} 32-bit, {double} 64-bit"
         );
         for kind in KINDS {
-            let (pages, most) = (self.widths(kind).iter().sum::<u64>(), kind.bits());
-            let _ = writeln!(text, "pages read at widths 0 to {most}, {most}-bit: {pages}");
+            for (least, counts, what) in self.widths(kind) {
+                let (pages, most) = (counts.iter().sum::<u64>(), kind.bits());
+                let _ =
+                    writeln!(text, "pages {what} at widths {least} to {most}, {most}-bit: {pages}");
+            }
         }
         text.push_str(&self.table_of_rooms());
         text.push_str(&self.table_of_sights());

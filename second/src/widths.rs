@@ -1,5 +1,6 @@
 //! Pages at every width: fields that begin at every bit of a byte, in packed
-//! parts that end at every byte of a word, with other bytes right behind.
+//! parts that end at every byte of a word, with other bytes right behind; and of
+//! these, pages with sums at the end of the kind's signed range (T-06).
 
 use crate::floats::Kind;
 use crate::layout::{self, pack, push_number};
@@ -41,12 +42,40 @@ fn fields(kind: Kind, width: usize, count: usize, random: &mut Random) -> (u64, 
     (common, (0..count).map(apart).collect())
 }
 
-/// A page of one vector whose fields have this width. The last value is an
-/// exception of ones, so that bits which are not the fields' follow the packed
-/// part; unused bits are 1 now and then.
+/// A page of one vector whose fields have this width.
 pub fn page_at(kind: Kind, width: usize, count: usize, random: &mut Random) -> Vec<u8> {
     let (common, fields) = fields(kind, width, count, random);
-    let mut packed = pack(&fields, width);
+    page_of(kind, common.wrapping_neg(), width, &fields, random)
+}
+
+/// A page in which frame plus field leaves the range at one position alone, by
+/// one; and the same page with one less there, so that none does.
+pub struct Beyond {
+    pub position: usize,
+    pub page: Vec<u8>,
+    pub within: Vec<u8>,
+}
+
+/// Such a page of one vector whose fields have this width, from 1 up. Every
+/// other sum is the largest of the range, or any below.
+pub fn beyond_at(kind: Kind, width: usize, count: usize, random: &mut Random) -> Beyond {
+    let position = *random.choose(&[0, count / 2, count - 1]);
+    let over = 1 << (width - 1) | bits(width - 1, random);
+    let frame = i128::from(kind.most()) + 1 - i128::from(over);
+    let other = |_| if random.one_in(2) { over - 1 } else { over - 1 - bits(width - 1, random) };
+    let mut fields: Vec<u64> = (0..count).map(other).collect();
+    fields[position] = over;
+    let page = page_of(kind, frame as u64, width, &fields, random);
+    fields[position] -= 1;
+    Beyond { position, page, within: page_of(kind, frame as u64, width, &fields, random) }
+}
+
+/// A page of one vector. The last value is an exception of ones, so that bits
+/// which are not the fields' follow the packed part; unused bits are 1 now and
+/// then.
+fn page_of(kind: Kind, frame: u64, width: usize, fields: &[u64], random: &mut Random) -> Vec<u8> {
+    let count = fields.len();
+    let mut packed = pack(fields, width);
     let used = count * width % 8;
     if used > 0 && random.one_in(4) {
         *packed.last_mut().expect("a byte that is used in part") |= 255 << used;
@@ -56,7 +85,7 @@ pub fn page_at(kind: Kind, width: usize, count: usize, random: &mut Random) -> V
     push_number(&mut page, layout::OFFSET as u64, layout::OFFSET);
     page.extend([0, 0]);
     push_number(&mut page, 1, 2);
-    push_number(&mut page, common.wrapping_neg(), kind.size());
+    push_number(&mut page, frame, kind.size());
     page.push(width as u8);
     page.extend(packed);
     push_number(&mut page, count as u64 - 1, layout::POSITION);
@@ -67,6 +96,7 @@ pub fn page_at(kind: Kind, width: usize, count: usize, random: &mut Random) -> V
 #[cfg(test)]
 mod tests {
     use super::*;
+    use crate::answer::{refuse_at, Fault, Outcome, Refusal};
     use crate::floats::KINDS;
     use crate::read::read;
 
@@ -78,6 +108,7 @@ mod tests {
                 let page = page_at(kind, width, 9, &mut random);
                 let packed = layout::HEADER + layout::OFFSET + layout::metadata(kind);
                 let first = first_value(kind, &page);
+                assert!(first.is_ok());
                 for bit in 0..width {
                     let mut changed = page.clone();
                     changed[packed + bit / 8] ^= 1 << (bit % 8);
@@ -87,9 +118,26 @@ mod tests {
         }
     }
 
-    fn first_value(kind: Kind, page: &[u8]) -> u64 {
+    /// The upmost bit of a field of width W may take the sum out of the range.
+    fn first_value(kind: Kind, page: &[u8]) -> Result<u64, Refusal> {
         let mut values = vec![0; 9];
-        read(kind, page, &mut values).expect("a page that reads");
-        values[0]
+        read(kind, page, &mut values)?;
+        Ok(values[0])
+    }
+
+    #[test]
+    fn one_sum_is_beyond_the_range_or_none() {
+        for kind in KINDS {
+            for width in 1..=kind.bits() {
+                for count in [1, 2, 9] {
+                    let mut random = Random::of_case(9, width as u64, count as u64);
+                    let made = beyond_at(kind, width, count, &mut random);
+                    let read = |page: &[u8]| -> Outcome { read(kind, page, &mut vec![0; count]) };
+                    let refused = refuse_at(Fault::SumLeavesRange, 0, made.position);
+                    assert_eq!(read(&made.page), refused, "width {width}");
+                    assert_eq!(read(&made.within), Ok(count), "width {width}");
+                }
+            }
+        }
     }
 }

@@ -200,6 +200,95 @@ fn one_vector_ends_rightly_before_its_positions_and_they_before_the_room() {
     assert_eq!((alone(kind, &page, 0, 8), alone(kind, &page, 1, 5)), ((0, 0, 8), (0, 0, 3)));
 }
 
+/// The two vectors with the first frame so far below 2^31 - 1: its fields are 0
+/// to 7, so that the sum of the next position leaves the range.
+fn two_vectors_below(most: i32) -> Vec<u8> {
+    let mut page = two_vectors();
+    page[20..24].copy_from_slice(&(i32::MAX - most).to_le_bytes());
+    page
+}
+
+/// Reader, examiner and the reader of the vector say the same, whatever room is
+/// lent: 17 comes before 15.
+fn check_beyond(kind: Kind, page: &[u8], vector: u64, place: u64) {
+    let wanted = (17, vector, place);
+    for room in [0, 20] {
+        let mut output = vec![9; room];
+        assert_eq!(numbers(read(kind, page, &mut output)), wanted);
+        assert!(output.iter().all(|value| *value == 9));
+        assert_eq!(alone(kind, page, vector, room), wanted);
+    }
+    assert_eq!(numbers(examine(kind, page)), wanted);
+}
+
+#[test]
+fn the_first_sum_that_leaves_the_range_is_named() {
+    for (below, place) in [(0, 1), (1, 2), (2, 3), (6, 7)] {
+        check_beyond(Kind::Single, &two_vectors_below(below), 0, place);
+    }
+    let page = two_vectors_below(7);
+    assert_eq!(numbers(read(Kind::Single, &page, &mut [0; 9])), (0, 0, 9), "2^31 - 1");
+    assert_eq!(alone(Kind::Single, &page, 0, 8), (0, 0, 8));
+    assert_eq!(alone(Kind::Single, &two_vectors_below(0), 1, 1), (0, 0, 1), "not its fault");
+}
+
+#[test]
+fn sums_go_before_the_next_vector_and_behind_all_else_of_their_own() {
+    let kind = Kind::Single;
+    let page = two_vectors_below(2);
+    let forged = |changes: &[(usize, u8)]| {
+        let mut forged = page.clone();
+        changes.iter().for_each(|(at, byte)| forged[*at] = *byte);
+        forged
+    };
+    let read_as = |page: &[u8]| numbers(read(kind, page, &mut [0; 9]));
+    let second = 8 + 8 + 9 + 3;
+    check_beyond(kind, &forged(&[(second, 99)]), 0, 3);
+    assert_eq!(read_as(&forged(&[(12, 0)])), (17, 0, 3), "before the next offset");
+    assert_eq!(alone(kind, &forged(&[(12, 0)]), 0, 8), (8, 0, 0), "its end goes before");
+    let longer = [&page[..], &[0]].concat();
+    check_beyond(kind, &longer, 0, 3);
+    for (at, byte, row) in [(16, 99, 9), (17, 1, 10), (18, 9, 11), (24, 33, 12), (24, 32, 7)] {
+        assert_eq!(read_as(&forged(&[(at, byte)])), (row, 0, 0));
+        assert_eq!(alone(kind, &forged(&[(at, byte)]), 0, 8), (row, 0, 0));
+    }
+}
+
+/// Three values at s 3, frame 2^31 - 1 and fields 0, 1, 0: the second is listed.
+const LISTED: [u8; 28] = [
+    1, 0, 0, 3, 3, 0, 0, 0, 4, 0, 0, 0, 0, 0, 1, 0, 255, 255, 255, 127, 1, 2, 1, 0, 0, 0, 192, 127,
+];
+
+#[test]
+fn a_listed_position_counts_and_its_list_goes_before() {
+    check_beyond(Kind::Single, &LISTED, 0, 1);
+    let mut forged = LISTED;
+    forged[22] = 3;
+    assert_eq!(numbers(read(Kind::Single, &forged, &mut [0; 3])), (13, 0, 0));
+    assert_eq!(numbers(examine(Kind::Single, &forged)), (13, 0, 0));
+    assert_eq!(alone(Kind::Single, &forged, 0, 3), (13, 0, 0));
+    let mut forged = LISTED;
+    forged[16] = 254;
+    assert_eq!(numbers(read(Kind::Single, &forged, &mut [0; 3])), (0, 0, 3));
+}
+
+#[test]
+fn a_frame_below_0_leaves_more_room() {
+    // Frame -1 with fields 2^63 and 2^63 + 1; then the smallest frame with the
+    // largest fields.
+    let head = [1, 0, 0, 3, 2, 0, 0, 0, 4, 0, 0, 0, 0, 0, 0, 0];
+    let page = |frame: i64, fields: [u64; 2]| {
+        let fields = fields.map(u64::to_le_bytes).concat();
+        [&head[..], &frame.to_le_bytes(), &[64], &fields].concat()
+    };
+    check_beyond(Kind::Double, &page(-1, [1 << 63, (1 << 63) + 1]), 0, 1);
+    check_beyond(Kind::Double, &page(i64::MIN + 1, [u64::MAX, 0]), 0, 0);
+    let whole = page(i64::MIN, [u64::MAX; 2]);
+    let mut values = [0; 2];
+    assert_eq!(numbers(read(Kind::Double, &whole, &mut values)), (0, 0, 2));
+    assert_eq!(values, [f64::powi(2.0, 63).to_bits(); 2]);
+}
+
 #[test]
 fn examiner_names_the_first_vector_then_the_lowest_row() {
     let page = two_vectors();
