@@ -102,6 +102,9 @@ enum strahnuk_row {
     STRAHNUK_OUTPUT_TOO_SHORT = 15,
     /* the pairs are not one per vector; measure, write */
     STRAHNUK_PAIRS = 16,
+    /* frame plus field leaves the kind's signed range, -2^31 to 2^31 - 1 or -2^63 to 2^63 - 1, at a listed position or another; read, read
+       vector, examine; vector: that vector; place: the first such position in it */
+    STRAHNUK_SUM_OUT_OF_RANGE = 17,
     /* an unused packed bit is 1; examine; vector: that vector */
     STRAHNUK_UNUSED_BIT = 20,
     /* an unlisted whole number comes back as a value that is an exception, or that turns into another whole number; examine; vector: that
@@ -143,8 +146,9 @@ strahnuk_answer alp_write64(const uint64_t *values, size_t values_length, uint8_
 /*
  * Read: the values of a page, into `out`. The kind does not stand in the page: it is the caller's to know. Done's place: the count of
  * values. No more than STRAHNUK_MOST_VALUES are ever written.
- * Rows in order: 1 to 6; 7 for the offsets; then each vector in turn 8, 7 for its metadata, 9 to 12, 7 for its data, 13; then 14; then 15
- * if `out` is shorter than the count of values.
+ * Rows in order: 1 to 6; 7 for the offsets; then each vector in turn 8, 7 for its metadata, 9 to 12, 7 for its data, 13, 17; then 14; then
+ * 15 if `out` is shorter than the count of values.
+ * Of pages that no write gave, forged or damaged ones, some that read before T-06 are refused now, by 17: docs/OLDER-PAGES.md.
  */
 strahnuk_answer alp_read32(const uint8_t *page, size_t page_length, uint32_t *out, size_t out_length);
 strahnuk_answer alp_read64(const uint8_t *page, size_t page_length, uint64_t *out, size_t out_length);
@@ -156,7 +160,7 @@ strahnuk_answer alp_read64(const uint8_t *page, size_t page_length, uint64_t *ou
  * 1 << STRAHNUK_LARGEST_S.
  * Rows in order: 1 to 6; 30 if `number` is not below the count of vectors, so always on a page of no values; 7 for the offsets; 8 if the
  * vector starts before their end; 7 for its metadata, also if it starts past the page's end; 9 to 12; 7 for its data; 8 if it does not end
- * where the next offset says, or the last vector at the page's end; 13; then 15 if `out` is shorter than the vector's count of values.
+ * where the next offset says, or the last vector at the page's end; 13; 17; then 15 if `out` is shorter than the vector's count of values.
  */
 strahnuk_answer alp_read_vector32(const uint8_t *page, size_t page_length, size_t number, uint32_t *out, size_t out_length);
 strahnuk_answer alp_read_vector64(const uint8_t *page, size_t page_length, size_t number, uint64_t *out, size_t out_length);
@@ -205,6 +209,7 @@ static inline const char *strahnuk_sentence(uint64_t number)
     case STRAHNUK_BYTES_AFTER: return "bytes after the last vector";
     case STRAHNUK_OUTPUT_TOO_SHORT: return "the lent output is too short";
     case STRAHNUK_PAIRS: return "the pairs are not one per vector";
+    case STRAHNUK_SUM_OUT_OF_RANGE: return "frame plus field leaves the kind's signed range";
     case STRAHNUK_UNUSED_BIT: return "an unused packed bit is 1";
     case STRAHNUK_UNLISTED:
         return "an unlisted whole number comes back as a value that is an exception, or that turns into another whole number";

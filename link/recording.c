@@ -414,6 +414,32 @@ static void tell_unchosen(int bits)
     show(&zeros, "31, no values, or more than 1,024, when choosing; of 1,024 the pair is 0, 0");
 }
 
+/* Two fields, 0 and 1, above the largest whole number of the kind: the second sum is one too large. With a frame one less both are read. */
+static void tell_beyond(int bits)
+{
+    static const uint8_t start[16] = {0x01, 0x00, 0x00, 0x0A, 0x02, 0x00, 0x00, 0x00, 0x04};
+    recording beyond = {"beyond", 0, 10, 1, {0}, {0}, 2, {0}, 0, {0}};
+    const size_t first = 0, word = (size_t)bits / 8, length = sizeof start + word + 2;
+    const size_t *numbers[] = {NULL, &first};
+    uint8_t page[ROOM];
+    uint64_t values[ROOM];
+    size_t i;
+    beyond.bits = bits;
+    memcpy(page, start, sizeof start);
+    memset(page + sizeof start, 0xFF, word);
+    page[length - 3] = 0x7F, page[length - 2] = 1, page[length - 1] = 2; /* the frame's last byte, the width, the packed fields */
+    for (i = 0; i < COUNT(numbers); i++) {
+        expect_answer(got(&beyond, page, length, numbers[i], values, ROOM), STRAHNUK_SUM_OUT_OF_RANGE, 0, 1, &beyond, "read beyond");
+        expect(untouched_values(&beyond, values, values + ROOM), &beyond, "a refused read changed the output");
+    }
+    expect_answer(examined(&beyond, page, length), STRAHNUK_SUM_OUT_OF_RANGE, 0, 1, &beyond, "examine beyond");
+    show(&beyond, "17, frame plus field leaves the kind's signed range, by one at position 1; the output stays");
+    page[sizeof start]--;
+    for (i = 0; i < COUNT(numbers); i++)
+        expect_answer(got(&beyond, page, length, numbers[i], values, ROOM), STRAHNUK_DONE, 0, 2, &beyond, "read the largest");
+    show(&beyond, "the largest whole number is read");
+}
+
 /* The float nearest to 0.1 lies above it, so 0.1 x 10 is 1 to nearest and more upward. `volatile`: the processor multiplies here. */
 static int rounds_upward(void)
 {
@@ -492,6 +518,8 @@ int main(void)
     tell_empty(64);
     tell_unchosen(32);
     tell_unchosen(64);
+    tell_beyond(32);
+    tell_beyond(64);
     tell_floats(&floats);
     tell_sentences();
     printf("%u things shown\n", shown);

@@ -355,6 +355,28 @@ impl Teller {
         );
     }
 
+    /// Two fields, 0 and 1, above the largest whole number of the kind: the second sum is one too large. With a frame one less both are
+    /// read.
+    fn tell_beyond<B: Copy + PartialEq + Debug>(&mut self, kind: &Kind<B>) {
+        let start = [1, 0, 0, 10, 2, 0, 0, 0, 4, 0, 0, 0, 0, 0, 0, 0];
+        let mut page = [&start[..], &vec![0xFF; kind.bits / 8 - 1], &[0x7F, 1, 2]].concat();
+        let beyond = Err(Refusal { row: Row::SumOutOfRange, vector: 0, place: 1 });
+        for number in [None, Some(0)] {
+            kind.expect_unread(&page, number, ROOM, beyond, "beyond");
+        }
+        assert_eq!((kind.examine)(&page), beyond);
+        self.show(
+            "beyond",
+            kind.bits,
+            "17, frame plus field leaves the kind's signed range, by one at position 1; the output stays",
+        );
+        page[start.len()] -= 1;
+        for number in [None, Some(0)] {
+            assert_eq!(kind.read(&page, number, &mut [kind.mark; ROOM]), Ok(2));
+        }
+        self.show("beyond", kind.bits, "the largest whole number is read");
+    }
+
     fn tell_floats(&mut self) {
         const UPWARD_WITH_TRAPS: u32 = 0x4000;
         let column = [0.1, 0.7, 1.23, 4.56, 7.89, 0.29, 1.1, 2.2].map(f64::to_bits);
@@ -517,6 +539,8 @@ fn main() {
     teller.tell_empty(&DOUBLE);
     teller.tell_unchosen(&SINGLE);
     teller.tell_unchosen(&DOUBLE);
+    teller.tell_beyond(&SINGLE);
+    teller.tell_beyond(&DOUBLE);
     teller.tell_floats();
     teller.tell_sentences();
     println!("{} things shown", teller.shown);

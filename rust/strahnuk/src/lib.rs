@@ -209,7 +209,9 @@ macro_rules! kind {
         /// The bit patterns of a page. The kind does not stand in the page: it is the caller's to know. Any bytes will do: no more than
         /// 16,384 values are ever allocated.
         ///
-        /// Rows in order: 1 to 6; 7 for the offsets; then each vector in turn 8, 7 for its metadata, 9 to 12, 7 for its data, 13; then 14.
+        /// Rows in order: 1 to 6; 7 for the offsets; then each vector in turn 8, 7 for its metadata, 9 to 12, 7 for its data, 13, 17; then
+        /// 14. Of pages that no writer gave, forged or damaged ones, some that read before T-06 are refused now, by 17:
+        /// docs/OLDER-PAGES.md.
         ///
         /// ```
         #[doc = concat!("use strahnuk::{read", $n, ", write", $n, ", Pair, Row};")]
@@ -253,7 +255,7 @@ macro_rules! kind {
         ///
         /// Rows in order: 1 to 6; 30 if `number` is not below the count of vectors, so always on a page of no values; 7 for the offsets;
         /// 8 if the vector starts before their end; 7 for its metadata, also if it starts past the page's end; 9 to 12; 7 for its data; 8
-        /// if it does not end where the next offset says, or the last vector at the page's end; 13.
+        /// if it does not end where the next offset says, or the last vector at the page's end; 13; 17.
         ///
         /// ```
         #[doc = concat!("use strahnuk::{read_vector", $n, ", write", $n, ", Pair, Row};")]
@@ -437,9 +439,9 @@ mod tests {
     use super::*;
 
     #[test]
-    #[should_panic(expected = "the archive answered 17, which is not in the table")]
+    #[should_panic(expected = "the archive answered 255, which is not in the table")]
     fn a_number_outside_the_table_panics() {
-        let _ = outcome(foreign::Answer { number: 17, vector: 0, place: 0 });
+        let _ = outcome(foreign::Answer { number: 255, vector: 0, place: 0 });
     }
 
     #[test]

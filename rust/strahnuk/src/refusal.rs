@@ -42,7 +42,7 @@ macro_rules! rows {
             ///
             /// ```
             /// assert_eq!(strahnuk::Row::from_number(8), Some(strahnuk::Row::Offset));
-            /// assert_eq!(strahnuk::Row::from_number(17), None);
+            /// assert_eq!(strahnuk::Row::from_number(99), None);
             /// ```
             pub fn from_number(number: u64) -> Option<Row> {
                 match number {
@@ -71,6 +71,7 @@ rows! {
     14 BytesAfter "bytes after the last vector", "read, examine";
     15 OutputTooShort "the lent output is too short", "write into, read into, read vector into";
     16 Pairs "the pairs are not one per vector", "measure, write";
+    17 SumOutOfRange "frame plus field leaves the kind's signed range", "read, read vector, examine";
     20 UnusedBit "an unused packed bit is 1", "examine";
     21 Unlisted "an unlisted whole number comes back as a value that is an exception, or that turns into another whole number", "examine";
     22 Listed "a listed value is no exception", "examine";
@@ -94,7 +95,7 @@ pub struct Refusal {
     pub row: Row,
     /// The vector at fault, counted from 0; 0 too for a row that belongs to no vector.
     pub vector: u64,
-    /// For rows 21, 22 and 23 the position in the vector, for row 13 the index in the list of positions, otherwise 0.
+    /// For rows 17, 21, 22 and 23 the position in the vector, for row 13 the index in the list of positions, otherwise 0.
     pub place: u64,
 }
 
@@ -104,7 +105,7 @@ impl fmt::Display for Refusal {
         write!(f, "{} {} {}: ", row.number(), vector, place)?;
         match row.number() {
             13 => write!(f, "vector {}, list index {}: ", vector, place)?,
-            21..=23 => write!(f, "vector {}, position {}: ", vector, place)?,
+            17 | 21..=23 => write!(f, "vector {}, position {}: ", vector, place)?,
             8..=12 | 20 | 24 => write!(f, "vector {}: ", vector)?,
             // With vector 0 this may be the offsets, which belong to no vector.
             7 if vector > 0 => write!(f, "vector {}: ", vector)?,

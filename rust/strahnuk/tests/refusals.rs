@@ -42,6 +42,11 @@ fn examined() -> Vec<(Vec<u8>, &'static str)> {
         (with(&R6, 20, 33), "12 0 0: vector 0: the width is above the kind's"),
         (r12, "13 0 1: vector 0, list index 1: a position is not below the vector's count, or not above the one before"),
         ([&R1[..], &[0]].concat(), "14 0 0: bytes after the last vector"),
+        (
+            // Frame 2^31 - 1 with fields 0 and 2.
+            [&R6[..16], &[0xFF, 0xFF, 0xFF, 0x7F, 2, 8]].concat(),
+            "17 0 1: vector 0, position 1: frame plus field leaves the kind's signed range",
+        ),
         (with(&R6, 21, 0x18), "20 0 0: vector 0: an unused packed bit is 1"),
         (
             // 2^31 - 1 comes back as 2^31, which is above the largest scaled magnitude.
@@ -57,7 +62,7 @@ fn examined() -> Vec<(Vec<u8>, &'static str)> {
 
 /// The numbers of all rows.
 fn table() -> BTreeSet<u64> {
-    (1..=16).chain(20..=24).chain([30, 31]).collect()
+    (1..=17).chain(20..=24).chain([30, 31]).collect()
 }
 
 #[test]
@@ -70,8 +75,8 @@ fn every_row_is_met_and_prints() {
     for (page, text) in examined() {
         let refusal = examine32(&page).unwrap_err();
         seen(refusal, text);
-        // The reader refuses for the same reason up to 14, and reads what only the examiner refuses.
-        if refusal.row.number() <= 14 {
+        // The reader refuses for the same reason up to 17, and reads what only the examiner refuses.
+        if refusal.row.number() <= 17 {
             assert_eq!(read32(&page), Err(refusal));
         } else {
             assert!(read32(&page).is_ok());

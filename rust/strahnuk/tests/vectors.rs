@@ -45,6 +45,13 @@ macro_rules! vectors {
                 start(page, 2) - 2 * (2 + $bits::BITS as usize / 8)
             }
 
+            /// The page with vector 1's frame so far below the largest number; its fields are 0, 0, 10, 15, 0, 25, 30 and 35.
+            fn below_most(page: &[u8], below: $bits) -> Vec<u8> {
+                let frame = ($bits::MAX / 2 - below).to_le_bytes();
+                let at = start(page, 1) + 4;
+                [&page[..at], &frame, &page[at + frame.len()..]].concat()
+            }
+
             fn expect_refused(page: &[u8], number: usize, room: usize, expected: Refusal) {
                 let mut out = vec![MARK; room];
                 assert_eq!($read_vector_into(page, number, &mut out), Err(expected));
@@ -92,6 +99,8 @@ macro_rules! vectors {
                     ([&page[..], &[0]].concat(), 2, refusal(Row::Offset, 2, 0)),
                     (with(&page, list(&page), 8), 1, refusal(Row::Position, 1, 0)),
                     (swapped, 1, refusal(Row::Position, 1, 1)),
+                    (below_most(&page, 0), 1, refusal(Row::SumOutOfRange, 1, 2)),
+                    (below_most(&page, 34), 1, refusal(Row::SumOutOfRange, 1, 7)),
                 ]
             }
 
@@ -112,7 +121,7 @@ macro_rules! vectors {
                     }
                     met.insert(15);
                 }
-                let table: BTreeSet<u64> = (1..=13).chain([15, 30]).collect();
+                let table: BTreeSet<u64> = (1..=13).chain([15, 17, 30]).collect();
                 assert_eq!(met, table);
             }
 
@@ -135,7 +144,7 @@ macro_rules! vectors {
                     (16, sound[16] + 1, Row::Offset),
                     (list, 8, Row::Position),
                 ];
-                let mut page = sound.clone();
+                let mut page = below_most(&sound, 0);
                 for (byte, fault, _) in faults {
                     page = with(&page, byte, fault);
                 }
@@ -143,7 +152,8 @@ macro_rules! vectors {
                     assert_eq!($read_vector_into(&page, 1, &mut []).unwrap_err().row, row);
                     page[byte] = sound[byte];
                 }
-                expect_refused(&page, 1, 0, refusal(Row::OutputTooShort, 0, 0));
+                expect_refused(&page, 1, 0, refusal(Row::SumOutOfRange, 1, 2));
+                expect_refused(&below_most(&page, 35), 1, 0, refusal(Row::OutputTooShort, 0, 0));
 
                 // What cuts a page short: 6, 30, then 7 for the offsets; 8 for the start, then 7 for the metadata.
                 expect_refused(&with(&sound, 6, 1)[..8], 3, 0, refusal(Row::TooManyValues, 0, 0));
@@ -224,6 +234,10 @@ macro_rules! vectors {
                 let offset = with(&page, 8, 0);
                 assert_eq!($read(&offset), Err(refusal(Row::Offset, 0, 0)));
                 comes(&offset, &[1, 2]);
+
+                let beyond = below_most(&page, 0);
+                assert_eq!($read(&beyond), Err(refusal(Row::SumOutOfRange, 1, 2)));
+                comes(&beyond, &[0, 2]);
 
                 let longer = [&page[..], &[0]].concat();
                 assert_eq!($read(&longer), Err(refusal(Row::BytesAfter, 0, 0)));
