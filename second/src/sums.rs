@@ -127,8 +127,8 @@ fn first(kind: Kind, vector: &Vector, refused: impl Fn(usize) -> bool) -> Result
     }
 }
 
-/// No row 17, as before T-06.
-const WITHOUT: Sums = |kind, vector| first(kind, vector, |_| false);
+/// No row 17: the numbers as before T-06.
+pub const MODULO: Sums = |kind, vector| first(kind, vector, |_| false);
 
 /// Mistakes in the sums and in which position is named.
 const MISTAKES: [(Trace, Sums); 7] = [
@@ -176,7 +176,7 @@ fn outcome(sums: Sums, request: &Request) -> Option<Outcome> {
 
 /// All that a request shows.
 pub fn shown(request: &Request) -> Vec<Trace> {
-    let (Some(right), Some(without)) = (outcome(sums, request), outcome(WITHOUT, request)) else {
+    let (Some(right), Some(without)) = (outcome(sums, request), outcome(MODULO, request)) else {
         return Vec::new();
     };
     let mut shown = match right {
@@ -218,7 +218,7 @@ fn of_refusal(request: &Request, refusal: Refusal) -> Vec<Trace> {
     // Where a row of these is the first, the vector's stored offset is right.
     let Ok((parts, _)) = find(*kind, page, refusal.vector as u64) else { return Vec::new() };
     match refusal.fault {
-        Fault::SumLeavesRange => match parts.vector(WITHOUT, *kind) {
+        Fault::SumLeavesRange => match parts.vector(MODULO, *kind) {
             Ok(vector) => of_sum(*kind, page[3], &vector, refusal),
             Err(_) => Vec::new(),
         },
