@@ -35,6 +35,9 @@ static size_t done(strahnuk_answer answer, const char *call)
 /*
  * The whole number at a place, where a vector's fields take `width` bits: its first field is 0 and its second the largest. Where they are wider
  * than the float's own `digits`, all are multiples of one power of two, so that each is a float exactly, and inside the limits of the kind.
+ *
+ * Row 17 costs most at the full width. The frame is -half + step there, so a field of all ones would leave the kind's signed range, by step, and
+ * frame and width alone do not say that none does: each field is looked at once more. At every other width here they say so.
  */
 static int64_t whole(unsigned digits, unsigned width, size_t place)
 {
