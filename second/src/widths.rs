@@ -59,7 +59,12 @@ pub struct Beyond {
 /// Such a page of one vector whose fields have this width, from 1 up. Every
 /// other sum is the largest of the range, or any below.
 pub fn beyond_at(kind: Kind, width: usize, count: usize, random: &mut Random) -> Beyond {
-    let position = *random.choose(&[0, count / 2, count - 1]);
+    let position = match random.below(4) {
+        0 => 0,
+        1 => random.below(count),
+        2 => count - 1 - random.below(count.min(9)),
+        _ => count - 1,
+    };
     let over = 1 << (width - 1) | bits(width - 1, random);
     let frame = i128::from(kind.most()) + 1 - i128::from(over);
     let other = |_| if random.one_in(2) { over - 1 } else { over - 1 - bits(width - 1, random) };
