@@ -19,7 +19,7 @@ use crate::read_vector::read_vector;
 use crate::rooms::{self, SHAPES};
 use crate::sums;
 use crate::tally::Tally;
-use crate::widths::{beyond_at, page_at, Beyond, COUNTS};
+use crate::widths::{at_widths, beyond_at, page_at, Beyond};
 
 /// A request and where it comes from.
 struct Case {
@@ -211,22 +211,16 @@ impl<'a> Comparison<'a> {
     /// Compares pages at every width of each kind, short ones and long ones:
     /// read, whole and by vectors, and examined.
     pub fn widths(&mut self, seed: u64) -> Result<(), String> {
-        for kind in KINDS {
-            for width in 0..=kind.bits() {
-                for count in COUNTS {
-                    let index = (kind.bits() * 100 + width) as u64 * 10_000 + count as u64;
-                    let mut random = Random::of_case(seed, WIDTHS, index);
-                    let page = page_at(kind, width, count, &mut random);
-                    let origin = format!("seed {seed}, width {width}, {count} values");
-                    let output = lend(kind, count + random.below(9), &mut random);
-                    let request = Request::Read { kind, page: page.clone(), output };
-                    let case = Case::of(&origin, request);
-                    self.put_case(Case { width: Some(width), ..case })?;
-                    let questions = every(&page, &mut random);
-                    self.ask(&origin, kind, &page, questions, &mut random)?;
-                    self.put(&origin, Request::Examine { kind, page })?;
-                }
-            }
+        for (kind, width, count, mut random) in at_widths(seed, WIDTHS, 0) {
+            let page = page_at(kind, width, count, &mut random);
+            let origin = format!("seed {seed}, width {width}, {count} values");
+            let output = lend(kind, count + random.below(9), &mut random);
+            let request = Request::Read { kind, page: page.clone(), output };
+            let case = Case::of(&origin, request);
+            self.put_case(Case { width: Some(width), ..case })?;
+            let questions = every(&page, &mut random);
+            self.ask(&origin, kind, &page, questions, &mut random)?;
+            self.put(&origin, Request::Examine { kind, page })?;
         }
         self.finish()
     }
@@ -234,16 +228,10 @@ impl<'a> Comparison<'a> {
     /// Compares pages at every width of each kind in which a sum just leaves the
     /// range, at a position known before, and in which none does.
     pub fn beyond(&mut self, seed: u64) -> Result<(), String> {
-        for kind in KINDS {
-            for width in 1..=kind.bits() {
-                for count in COUNTS {
-                    let index = (kind.bits() * 100 + width) as u64 * 10_000 + count as u64;
-                    let mut random = Random::of_case(seed, BEYOND, index);
-                    let made = beyond_at(kind, width, count, &mut random);
-                    let origin = format!("seed {seed}, beyond at width {width}, {count} values");
-                    self.put_beyond(&origin, kind, width, count, made, &mut random)?;
-                }
-            }
+        for (kind, width, count, mut random) in at_widths(seed, BEYOND, 1) {
+            let made = beyond_at(kind, width, count, &mut random);
+            let origin = format!("seed {seed}, beyond at width {width}, {count} values");
+            self.put_beyond(&origin, kind, width, count, made, &mut random)?;
         }
         self.finish()
     }

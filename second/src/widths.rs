@@ -2,14 +2,31 @@
 //! parts that end at every byte of a word, with other bytes right behind; and of
 //! these, pages with sums at the end of the kind's signed range (T-06).
 
-use crate::floats::Kind;
+use crate::floats::{Kind, KINDS};
 use crate::layout::{self, pack, push_number};
 use crate::random::Random;
 
 /// The counts of values of these pages: every small one, and some around a
 /// few words and around a whole vector.
-pub const COUNTS: [usize; 24] =
+const COUNTS: [usize; 24] =
     [1, 2, 3, 4, 5, 6, 7, 8, 9, 10, 11, 12, 13, 15, 16, 17, 31, 33, 63, 64, 65, 129, 1_023, 1_024];
+
+/// Each kind, each of its widths from `first` on and each count, with random
+/// numbers of its own.
+pub fn at_widths(
+    seed: u64,
+    phase: u64,
+    first: usize,
+) -> impl Iterator<Item = (Kind, usize, usize, Random)> {
+    let widths =
+        KINDS.into_iter().flat_map(move |kind| (first..=kind.bits()).map(move |w| (kind, w)));
+    widths.flat_map(move |(kind, width)| {
+        COUNTS.into_iter().map(move |count| {
+            let index = (kind.bits() * 100 + width) as u64 * 10_000 + count as u64;
+            (kind, width, count, Random::of_case(seed, phase, index))
+        })
+    })
+}
 
 /// The bits of a whole number that the kind holds exactly, and the bits in
 /// which fields that are wider differ from one another.
@@ -102,7 +119,6 @@ fn page_of(kind: Kind, frame: u64, width: usize, fields: &[u64], random: &mut Ra
 mod tests {
     use super::*;
     use crate::answer::{refuse_at, Fault, Outcome, Refusal};
-    use crate::floats::KINDS;
     use crate::read::read;
 
     #[test]
