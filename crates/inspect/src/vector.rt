@@ -20,15 +20,14 @@ use decimal::tables::scale_of32;
 use decimal::tables::scale_of64;
 ghost use mathlib.Core.Path.{_≡_};
 ghost use Prim.Native.Nat.{_^_, _≤_};
-ghost use lib.ListN.{drop};
 ghost use lib.Ieee.{binary32, binary64};
-ghost use Rattle.rules.specs.Kind.{maxS, metaBytes};
-ghost use Rattle.rules.specs.Page.{metaAt, rawFrom};
+ghost use Rattle.rules.specs.Kind.{maxS};
+ghost use Rattle.rules.specs.Page.{metaAt};
 ghost use Rattle.rules.specs.Verdict.{verdict};
 ghost use Rattle.rules.specs.Examine.{rulesRows};
 ghost use Rattle.rules.proofs.Reading.{Passed};
 ghost use Rattle.decimal.specs.Scale.{Scales32, Scales64};
-ghost use Rattle.checks.specs.Forms.{formatOf, asVerdict};
+ghost use Rattle.checks.specs.Forms.{formatOf, asVerdict, rawAt};
 ghost use Rattle.inspect.specs.Seen.{seen32, seen64, FieldsLaid32, FieldsLaid64, ListsLaid32, ListsLaid64};
 
 // Rows 20 to 24: the lowest row that refuses, at its first position.
@@ -65,7 +64,7 @@ fn check_rules32(packed: &[u8], lists: &[u8], k: Vector32) -> Check
 // The same of vector v of n values, whose layout has been checked.
 pub fn inspect_vector64(part: &[u8], v: usize, n: usize) -> Check
     requires { ⌜ (n ≤ 2 ^ maxS) × Passed binary64 n (metaAt binary64 (now part)) (now part) ⌝ }
-    ensures { λ r. ⌜ asVerdict r ≡ verdict (rulesRows binary64 v (rawFrom binary64 n (metaAt binary64 (now (part .entry))) (drop (metaBytes binary64) (now (part .entry))))) ⌝ }
+    ensures { λ r. ⌜ asVerdict r ≡ verdict (rulesRows binary64 v (rawAt binary64 n (now (part .entry)))) ⌝ }
 {
     let m = meta_at(part, Kind::Double);
     let front = meta_bytes(Kind::Double);
@@ -86,7 +85,7 @@ pub fn inspect_vector64(part: &[u8], v: usize, n: usize) -> Check
 
 pub fn inspect_vector32(part: &[u8], v: usize, n: usize) -> Check
     requires { ⌜ (n ≤ 2 ^ maxS) × Passed binary32 n (metaAt binary32 (now part)) (now part) ⌝ }
-    ensures { λ r. ⌜ asVerdict r ≡ verdict (rulesRows binary32 v (rawFrom binary32 n (metaAt binary32 (now (part .entry))) (drop (metaBytes binary32) (now (part .entry))))) ⌝ }
+    ensures { λ r. ⌜ asVerdict r ≡ verdict (rulesRows binary32 v (rawAt binary32 n (now (part .entry)))) ⌝ }
 {
     let m = meta_at(part, Kind::Single);
     let frame = m.frame as u32;
@@ -109,7 +108,7 @@ pub fn inspect_vector32(part: &[u8], v: usize, n: usize) -> Check
 // The same of either kind.
 pub fn inspect_vector(part: &[u8], kind: Kind, v: usize, n: usize) -> Check
     requires { ⌜ (n ≤ 2 ^ maxS) × Passed (formatOf kind) n (metaAt (formatOf kind) (now part)) (now part) ⌝ }
-    ensures { λ r. ⌜ asVerdict r ≡ verdict (rulesRows (formatOf kind) v (rawFrom (formatOf kind) n (metaAt (formatOf kind) (now (part .entry))) (drop (metaBytes (formatOf kind)) (now (part .entry))))) ⌝ }
+    ensures { λ r. ⌜ asVerdict r ≡ verdict (rulesRows (formatOf kind) v (rawAt (formatOf kind) n (now (part .entry)))) ⌝ }
 {
     match kind {
         Kind::Single => inspect_vector32(part, v, n),
