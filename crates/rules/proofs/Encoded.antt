@@ -41,7 +41,7 @@ pub small_word : (fmt : Format) → word_bits fmt ≤ 64
 small_word binary32 = lit≤ tt
 small_word binary64 = lit≤ tt
 
-pub places-few : (i : ℕ) {A : Type 0} (ts : List (Option A)) → length (places i ts) ≤ length ts
+pub places-few : {A : Type 0} (i : ℕ) (ts : List (Option A)) → length (places i ts) ≤ length ts
 unfolding places
 places-few i [] = zero-le
 places-few i (none ∷ ts) = suc-le-suc (places-few (suc i) ts)
@@ -51,7 +51,7 @@ rising-lower : (n low low' : ℕ) (ps : List ℕ) → low ≤ low' → Rising n 
 rising-lower n low low' [] h r = tt
 rising-lower n low low' (p ∷ ps) h r = (le_trans h r.0, r.1, r.2)
 
-pub places-rising : (n i : ℕ) {A : Type 0} (ts : List (Option A)) → i + length ts ≤ n → Rising n i (places i ts)
+pub places-rising : {A : Type 0} (n i : ℕ) (ts : List (Option A)) → i + length ts ≤ n → Rising n i (places i ts)
 unfolding places
 places-rising n i [] h = tt
 places-rising n i (none ∷ ts) h = (le_refl i, omega arith, places-rising n (suc i) ts (omega arith))
@@ -61,7 +61,7 @@ pub rising-below : (n low c : ℕ) (ps : List ℕ) → n ≤ c → Rising n low 
 rising-below n low c [] h r = tt
 rising-below n low c (p ∷ ps) h r = (lt_of_lt_of_le r.1 h, rising-below n (suc p) c ps h r.2)
 
-pub picks-paired : (i : ℕ) {A : Type 0} (ts : List (Option A)) (vs : List ℕ) → length ts ≡ length vs → length (picks ts vs) ≡ length (places i ts)
+pub picks-paired : {A : Type 0} (i : ℕ) (ts : List (Option A)) (vs : List ℕ) → length ts ≡ length vs → length (picks ts vs) ≡ length (places i ts)
 unfolding places picks
 picks-paired i [] vs e = refl
 picks-paired i (t ∷ ts) [] e = absurd (omega (arith, e))

@@ -41,7 +41,7 @@ stored-none [] xs i h = refl
 stored-none (p ∷ ps) [] i h = refl
 stored-none (p ∷ ps) (x ∷ xs) i h = cond_no (eqb i p) (some x) (stored ps xs i) (not_T (eqb i p) (λ t. let e : i ≡ p = eqb→eq i p t in let l = h.0 in omega arith)) ∙ stored-none ps xs i h.1
 
-pub places-above : (i : ℕ) {A : Type 0} (ts : List (Option A)) → Each (λ (p : ℕ). i ≤ p) (places i ts)
+pub places-above : {A : Type 0} (i : ℕ) (ts : List (Option A)) → Each (λ (p : ℕ). i ≤ p) (places i ts)
 unfolding places
 places-above i [] = tt
 places-above i (none ∷ ts) = (le_refl i, each_map (λ (p : ℕ). suc i ≤ p) (λ (p : ℕ). i ≤ p) (λ p h. omega arith) (places (suc i) ts) (places-above (suc i) ts))
@@ -60,7 +60,7 @@ stored_here i x ps xs = cond_yes (eqb i i) (some x) (stored ps xs i) (eqb_refl i
     cond_yes true x y t = refl
     cond_yes false x y t = absurd t
 
-pub marks-back : (i : ℕ) {A : Type 0} (ts : List (Option A)) (vs : List ℕ) → length ts ≡ length vs → marks (places i ts) (picks ts vs) i (length vs) ≡ zip_with mark ts vs
+pub marks-back : {A : Type 0} (i : ℕ) (ts : List (Option A)) (vs : List ℕ) → length ts ≡ length vs → marks (places i ts) (picks ts vs) i (length vs) ≡ zip_with mark ts vs
 unfolding marks places picks zip_with
 marks-back i [] [] e = refl
 marks-back i [] (v ∷ vs) e = absurd (omega (arith, e))
