@@ -1,6 +1,8 @@
 // The public calls under the names that C and Rust link: thin, with the same promises. A slice passes as a pointer and then a length, the
 // answer by value as three 64-bit numbers, and a choice as those and two bytes. include/strahnuk.h and rust/strahnuk declare these names;
 // nothing checks those declarations against this file, so the boundary stays as small as this.
+#![tactic(auto)]
+
 ghost use Rattle.std.specs.Float.{binary32, binary64};
 ghost use Rattle.rules.specs.Calls.{Measured, Written, Read, ReadVector, Examined, Chosen};
 

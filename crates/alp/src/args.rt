@@ -3,7 +3,7 @@ ghost use Rattle.std.specs.Prelude.{◌≤◌};
 
 use checks::kind::Kind;
 
-#[derive(Drop)]
+#[derive(Clone, Copy)]
 pub enum Job {
     Write,
     Read,
@@ -13,19 +13,19 @@ pub enum Job {
     Unknown,
 }
 
-#[derive(Drop)]
+#[derive(Clone, Copy)]
 pub enum KindWord {
     Is(Kind),
     Wrong,
 }
 
-#[derive(Drop)]
+#[derive(Clone, Copy)]
 pub enum ByteWord {
     Is(u8),
     Wrong,
 }
 
-#[derive(Drop)]
+#[derive(Clone, Copy)]
 pub enum NumberWord {
     Is(u64),
     Wrong,

@@ -1,5 +1,7 @@
 // The file tool: writes, reads, examines and shows pages that stand in files (`alp help` says how). What it does to bytes is the
 // library's, proved; what it does to files is kept small. It never overwrites a file, and a refusal leaves none behind.
+#![tactic(auto)]
+
 mod args;
 mod choose;
 mod examine;

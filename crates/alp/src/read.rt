@@ -14,7 +14,7 @@ use sentences::{done, error, refusal};
 use vector_reader::{read_vector32, read_vector64};
 
 // What is read: the whole page, or one vector of it.
-#[derive(Drop)]
+#[derive(Clone, Copy)]
 enum Asked {
     Page,
     Vector(usize),

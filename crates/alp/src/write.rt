@@ -14,14 +14,14 @@ use sentences::{done, error, refusal};
 use writer::{measure32, measure64, write32, write64};
 
 // Where the pairs come from: one exponent and factor for every vector of the column, or the library's choice for each.
-#[derive(Drop)]
+#[derive(Clone, Copy)]
 enum Pairs {
     Given(u8, u8),
     Chosen,
 }
 
 // The last two are the words that name the files.
-#[derive(Drop)]
+#[derive(Clone, Copy)]
 struct Settings {
     s: u8,
     pairs: Pairs,

@@ -4,7 +4,7 @@ use libc::{STDIN_FILENO, STDOUT_FILENO};
 use rules::{Answer, Choice};
 
 // The call, the kind, s, and the three lengths.
-#[derive(Drop)]
+#[derive(Clone, Copy)]
 pub struct Request {
     pub call: u8,
     pub kind: u8,
@@ -14,7 +14,7 @@ pub struct Request {
     pub c: usize,
 }
 
-#[derive(Drop)]
+#[derive(Clone, Copy)]
 pub enum Got {
     Nothing,
     Bad,

@@ -1,4 +1,6 @@
 // Answers framed requests on standard input, so that another program can drive the library's calls (docs/FRAMES.md).
+#![tactic(auto)]
+
 mod frames;
 mod rooms;
 mod serve;

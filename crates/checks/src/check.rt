@@ -5,7 +5,7 @@ ghost use Rattle.checks.specs.Forms.{as_verdict};
 
 use rules::Answer;
 
-#[derive(Drop)]
+#[derive(Clone, Copy)]
 pub enum Check {
     Fine,
     No(Answer),

@@ -4,7 +4,7 @@ ghost use mir.Val.{hbits};
 ghost use Rattle.rules.specs.Kind.{word, word_bytes, word_bits, max_exponent, meta_bytes};
 ghost use Rattle.checks.specs.Forms.{format_of};
 
-#[derive(Drop)]
+#[derive(Clone, Copy)]
 pub enum Kind {
     Single,
     Double,

@@ -18,7 +18,7 @@ use bits::windows::first_above;
 use rules::{Exponent, Factor};
 
 // A vector's metadata.
-#[derive(Drop)]
+#[derive(Clone, Copy)]
 pub struct Meta {
     pub exponent: Exponent,
     pub factor: Factor,
@@ -28,7 +28,7 @@ pub struct Meta {
 }
 
 // How far the layout has come: the next vector's number, its offset, and how many values are left for it and those behind it.
-#[derive(Drop)]
+#[derive(Clone, Copy)]
 pub struct Cursor {
     pub vector: usize,
     pub offset: usize,

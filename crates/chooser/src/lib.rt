@@ -1,4 +1,6 @@
 // Choosing a vector's pair: the public call, both kinds.
+#![tactic(auto)]
+
 mod trial; // trial.rt: the bytes of a vector with one pair, as far as they matter
 mod search; // search.rt: the first of the pairs with the fewest
 

@@ -11,14 +11,14 @@ use decimal::tables::{scale_of32, scale_of64};
 use encode::scan::{scan32, scan64, vector_size32, vector_size64};
 use rules::{Exponent, Factor};
 
-#[derive(Drop)]
+#[derive(Clone, Copy)]
 pub struct Pair {
     pub exponent: Exponent,
     pub factor: Factor,
 }
 
 // A pair, and the bytes that the vector has with it.
-#[derive(Drop)]
+#[derive(Clone, Copy)]
 pub struct Best {
     pub pair: Pair,
     pub size: usize,

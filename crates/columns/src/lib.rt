@@ -1,4 +1,6 @@
 // A column's file form: its values' bit patterns as little-endian words of 4 or 8 bytes, one after the other. Bytes to values and back.
+#![tactic(auto)]
+
 ghost use Rattle.std.specs.Prelude.{◌≡◌, ◌*◌, ◌≤◌, length};
 ghost use Rattle.digits.specs.Digits.{les, numbers};
 ghost use Rattle.digits.specs.Lists.{over};

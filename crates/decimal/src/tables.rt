@@ -10,7 +10,7 @@ ghost use Rattle.decimal.specs.Scale.{pair_of, pair32, pair64, Scales32, Scales6
 use rules::{Exponent, Factor};
 
 // A pair e, f with its powers: 10^e and 10^-f for the way to the whole number, 10^f and 10^-e for the way back.
-#[derive(Drop)]
+#[derive(Clone, Copy)]
 pub struct Scale64 {
     pub exponent: Exponent,
     pub factor: Factor,
@@ -20,7 +20,7 @@ pub struct Scale64 {
     pub down_e: f64,
 }
 
-#[derive(Drop)]
+#[derive(Clone, Copy)]
 pub struct Scale32 {
     pub exponent: Exponent,
     pub factor: Factor,

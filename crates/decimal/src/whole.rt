@@ -10,13 +10,13 @@ use crate::back::{back32, back64};
 use crate::signed::{to_word32, to_word64};
 use crate::tables::{Scale32, Scale64, two_products32, two_products64};
 
-#[derive(Drop)]
+#[derive(Clone, Copy)]
 pub enum Turned64 {
     Whole(i64),
     Exception,
 }
 
-#[derive(Drop)]
+#[derive(Clone, Copy)]
 pub enum Turned32 {
     Whole(i32),
     Exception,

@@ -1,6 +1,8 @@
 // One vector of values to its bytes, for both kinds: scanned, then written straight into the lent output.
 //
 // Each kind's functions stand beside their twins; what is proved of them is proved over the format or the width (proofs/).
+#![tactic(auto)]
+
 pub mod scan; // scan.rt: the record of a vector in progress, and what it says of the vector's size
 pub mod records; // records.rt: the records of a page's first vectors, kept from measuring for writing
 pub mod lists; // lists.rt: the positions and the bit patterns of the exceptions

@@ -11,12 +11,12 @@ use crate::scan::{Seen32, Seen64, nothing32, nothing64, scan32, scan64};
 use decimal::tables::{Scale32, Scale64};
 
 // As many as a full column has of 1,024 values each. In shorter vectors it has more: those behind are scanned twice.
-#[derive(Drop)]
+#[derive(Clone, Copy)]
 pub struct Records64 {
     pub of: [Seen64; 16],
 }
 
-#[derive(Drop)]
+#[derive(Clone, Copy)]
 pub struct Records32 {
     pub of: [Seen32; 16],
 }

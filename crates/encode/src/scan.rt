@@ -14,7 +14,7 @@ use decimal::whole::{Turned32, Turned64, whole32, whole64};
 
 // Counts of values and of exceptions seen; the stand-in, and the smallest and the largest whole number. The list with stand-ins begins with
 // the stand-in, so these two start there and pass over the exceptions.
-#[derive(Drop)]
+#[derive(Clone, Copy)]
 pub struct Seen64 {
     pub count: usize,
     pub listed: usize,
@@ -23,7 +23,7 @@ pub struct Seen64 {
     pub largest: i64,
 }
 
-#[derive(Drop)]
+#[derive(Clone, Copy)]
 pub struct Seen32 {
     pub count: usize,
     pub listed: usize,

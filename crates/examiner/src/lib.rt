@@ -1,4 +1,6 @@
 // The examiner: the reader's rows without 15; only then rows 20 to 24, vector by vector. It takes any bytes and writes nothing.
+#![tactic(auto)]
+
 ghost use Rattle.std.specs.Prelude.{◌≡◌};
 ghost use Rattle.std.specs.Float.{binary32, binary64};
 ghost use Rattle.rules.specs.Page.{raws_of};

@@ -1,11 +1,13 @@
 // Whole files that the program's words name: read into lent room, or made anew and written, never overwritten. What a system call did no
 // contract can say (docs/UNSTATED.md), so each of its answers is looked at here. `who` is the program's name, for its complaints.
+#![tactic(auto)]
+
 ghost use Rattle.std.specs.Prelude.{◌≤◌, length};
 
 use libc::STDERR_FILENO;
 
 // How many bytes came, if none of the reads failed.
-#[derive(Drop)]
+#[derive(Clone, Copy)]
 pub struct Loaded {
     pub failed: bool,
     pub count: usize,

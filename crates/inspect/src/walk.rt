@@ -9,7 +9,7 @@ use bits::windows::window;
 use decimal::tables::{Scale32, Scale64};
 
 // A vector's numbers: its own number, how many values and exceptions it has, its width and frame, and its pair with the powers.
-#[derive(Drop)]
+#[derive(Clone, Copy)]
 pub struct Vector64 {
     pub number: usize,
     pub count: usize,
@@ -19,7 +19,7 @@ pub struct Vector64 {
     pub scale: Scale64,
 }
 
-#[derive(Drop)]
+#[derive(Clone, Copy)]
 pub struct Vector32 {
     pub number: usize,
     pub count: usize,

@@ -1,6 +1,8 @@
 // Prints what the leaves make of document 01's own values and of edge values, so that the gate can hold them to what an independent
 // program gives. A line of a value: its kind, bits, exponent and factor, and its whole number with the bits that it comes back as, or
 // "exception".
+#![tactic(auto)]
+
 use decimal::back::{back32, back64};
 use decimal::signed::{to_word32, to_word64};
 use decimal::tables::{scale_of32, scale_of64};

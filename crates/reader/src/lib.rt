@@ -1,5 +1,7 @@
 // The reader. Rows 1 to 14 and 17 are the check of a page's layout, then comes 15; nothing is written before all have passed. Then each
 // vector is read into its part of the output.
+#![tactic(auto)]
+
 ghost use Rattle.std.specs.Prelude.{◌≡◌, ◌≤◌, length};
 ghost use Rattle.std.specs.Float.{binary32, binary64};
 ghost use Rattle.digits.specs.Lists.{over};

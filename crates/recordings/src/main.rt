@@ -1,6 +1,8 @@
 // Runs document 01's recordings, the edges of the fast rounding, sums at the end of the kind's range, a page read vector by vector, vectors whose
 // pair is chosen, a column written into outputs of edge lengths, and columns of edge lengths through the library and prints what each call
 // answers and gives; the gate holds the output to what an independent program over exact fractions gives.
+#![tactic(auto)]
+
 mod chosen;
 mod columns;
 mod examined;

@@ -8,7 +8,7 @@ use rules::Answer;
 use vector_reader::{read_vector32, read_vector64};
 
 // How the sound page is changed, and what is asked of it.
-#[derive(Drop)]
+#[derive(Clone, Copy)]
 struct Case {
     // this byte stands at this place
     at: usize,

@@ -1,4 +1,6 @@
 // Answers as a person reads them: document 01's three numbers, and a sentence.
+#![tactic(auto)]
+
 use libc::{STDERR_FILENO, STDOUT_FILENO};
 use rules::Answer;
 

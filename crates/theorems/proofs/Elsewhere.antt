@@ -15,7 +15,7 @@ use Rattle.rules.specs.Verdict.{Rows, row, ◌then◌, in_vector, ◌below◌, �
 use Rattle.rules.specs.Read.{head_rows, offsets_row, meta_rows, positions_rows, sums_rows, payload_rows}
 use Rattle.rules.specs.ReadVector.{values_in, Span, span_of, number_rows, alone_rows, read_vector_rows, vector_values, read_vector_of}
 use Rattle.rules.specs.Demands.{vector_at, Alike}
-use Rattle.theorems.proofs.Longer.{meta_same, raw_same, first_of}
+use Rattle.theorems.proofs.Longer.{meta_same, raw_same, front_decides}
 
 -- ---- the header
 
@@ -44,7 +44,7 @@ module _ (fmt : Format) (n : ℕ) (m : Meta) (part other : List ℕ) (same : tak
 
   -- what any k bytes decide, these k bytes decide
   front : {A : Type 0} (f : List ℕ → A) → ((l : List ℕ) → k ≤ length l → f (take k l ++ drop k l) ≡ f (take k l)) → f part ≡ f other
-  front f h = sym (first_of f k part (h part)) ∙ ap f same ∙ first_of f k other (h other)
+  front f h = sym (front_decides f k part (h part)) ∙ ap f same ∙ first_of f k other (h other)
 
   part_meta : meta_at fmt part ≡ meta_at fmt other
   part_meta = front (meta_at fmt) (λ l h. meta_same fmt (take k l) (drop k l) (omega (arith, length-take-le k l h)))

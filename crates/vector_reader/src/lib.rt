@@ -1,5 +1,7 @@
 // The reading of one vector by its number: only the header, the vector's own offset, the one behind it and the vector itself are looked at.
 // Nothing is written before all rows have passed.
+#![tactic(auto)]
+
 ghost use Rattle.std.specs.Prelude.{◌≡◌, ◌^◌, ◌≤◌, ◌<◌};
 ghost use Rattle.std.specs.Float.{binary32, binary64};
 ghost use Rattle.rules.specs.Kind.{max_s};
@@ -19,7 +21,7 @@ use checks::vector::{check_meta, check_payload, meta_at};
 use rules::Answer;
 
 // Where the page says that a vector lies, measured from byte 8: from its own stored offset to the next one, or to the page's end.
-#[derive(Drop)]
+#[derive(Clone, Copy)]
 pub struct Span {
     pub from: usize,
     pub to: usize,

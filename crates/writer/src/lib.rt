@@ -1,4 +1,6 @@
 // Measuring and writing a page: the public calls, both kinds.
+#![tactic(auto)]
+
 mod refusals; // refusals.rt: the rows, in their order
 mod measure; // measure.rt: how long the page will be
 mod page; // page.rt: the page itself

@@ -13,13 +13,13 @@ use encode::scan::{scan32, scan64, vector_size32, vector_size64};
 use rules::{Exponent, Factor};
 
 // What it finds: the size, and the records of the first vectors, which then are not scanned again to be written.
-#[derive(Drop)]
+#[derive(Clone, Copy)]
 pub struct Found64 {
     pub size: usize,
     pub records: Records64,
 }
 
-#[derive(Drop)]
+#[derive(Clone, Copy)]
 pub struct Found32 {
     pub size: usize,
     pub records: Records32,
