@@ -154,6 +154,8 @@ module _ (fmt : Format) (p : Pair) (inside : Allowed fmt p) where
       two-signs (brought_back fmt p (pos 0)) zero_back (subst (λ (x : Float). HasValue x true 0 1) (sym same) (zero_there fmt))
     where
       two-signs : (x : Float) → HasValue x false 0 1 → HasValue x true 0 1 → ⊥
+      two-signs nan h k = elim h [ ]
+      two-signs (inf _) h k = elim h [ ]
       two-signs (fin s m e) h k = false≢true (sym h.0 ∙ k.0)
 
 -- ---- the rule, at a pair p and a value's bits v

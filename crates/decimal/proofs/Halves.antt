@@ -56,6 +56,12 @@ over p a d c v = ap (λ (y : ℕ). y * c) (sym (mul-one p) ∙ v) ∙ mul_assoc 
 
 add_up : (fmt : Format) (x y : Float) (a b : ℕ) → HasValue x false a 1 → HasValue y false b 1 → add fmt x y ≡ round fmt false (a + b) 1
 unfolding add sum
+add_up fmt lib.Ieee.nan y a b x3 _ = elim x3 [ ]
+add_up fmt (lib.Ieee.inf _) y a b x5 _ = elim x5 [ ]
+add_up fmt (fin false m e) lib.Ieee.nan a b _ x11 = elim x11 [ ]
+add_up fmt (fin false m e) (lib.Ieee.inf _) a b _ x13 = elim x13 [ ]
+add_up fmt (fin true m e) lib.Ieee.nan a b _ x12 = elim x12 [ ]
+add_up fmt (fin true m e) (lib.Ieee.inf _) a b _ x14 = elim x14 [ ]
 add_up fmt (fin true m e) (fin u n d) a b (p, v) (q, w) = absurd (true≢false p)
 add_up fmt (fin false m e) (fin true n d) a b (p, v) (q, w) = absurd (true≢false q)
 add_up fmt (fin false m e) (fin false n d) a b (p, v) (q, w) =
@@ -80,6 +86,12 @@ arm fmt p q c h =
 
 add_down : (fmt : Format) (x y : Float) (a b : ℕ) → b < a → HasValue x true a 1 → HasValue y false b 1 → add fmt x y ≡ round fmt true (a - b) 1
 unfolding add sum
+add_down fmt lib.Ieee.nan y a b h x4 _ = elim x4 [ ]
+add_down fmt (lib.Ieee.inf _) y a b h x6 _ = elim x6 [ ]
+add_down fmt (fin false m e) lib.Ieee.nan a b h _ x14 = elim x14 [ ]
+add_down fmt (fin false m e) (lib.Ieee.inf _) a b h _ x16 = elim x16 [ ]
+add_down fmt (fin true m e) lib.Ieee.nan a b h _ x15 = elim x15 [ ]
+add_down fmt (fin true m e) (lib.Ieee.inf _) a b h _ x17 = elim x17 [ ]
 add_down fmt (fin false m e) (fin u n d) a b h (p, v) (q, w) = absurd (false≢true p)
 add_down fmt (fin true m e) (fin true n d) a b h (p, v) (q, w) = absurd (true≢false q)
 add_down fmt (fin true m e) (fin false n d) a b h (p, v) (q, w) =

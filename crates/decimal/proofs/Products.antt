@@ -21,6 +21,10 @@ swap a b c d = simp (mul_assoc, mul_comm, mul_left_comm)
 
 -- of values a / c and b / d, however they are written
 pub product_of : (fmt : Format) (x y : Float) (s t : Bool) (a c b d : ℕ) → 0 < c → 0 < d → HasValue x s a c → HasValue y t b d → mul fmt x y ≡ round fmt (unlike s t) (a * b) (c * d)
+product_of fmt lib.Ieee.nan y s t a c b d C D x5 _ = elim x5 [ ]
+product_of fmt (lib.Ieee.inf _) y s t a c b d C D x7 _ = elim x7 [ ]
+product_of fmt (fin s' m e) lib.Ieee.nan s t a c b d C D _ x12 = elim x12 [ ]
+product_of fmt (fin s' m e) (lib.Ieee.inf _) s t a c b d C D _ x14 = elim x14 [ ]
 product_of fmt (fin s' m e) (fin t' n g) s t a c b d C D (ps, pv) (qs, qv) =
     product fmt s' t' m n e g
     ∙ ap₂ (λ (u v : Bool). round fmt (unlike u v) (m * up e * (n * up g)) (down e * down g)) ps qs

@@ -1,0 +1,13 @@
+-- `back::nearest_float64` meets its contract: the halves make the nearest float. Assumes nothing.
+use Rattle.std.proofs.Common.{◌≡◌, refl}
+use lib.Ieee.{binary64, of_bits}
+use Rattle.decimal.proofs.Halves.{unit, halves_nearest}
+use Rattle.decimal.proofs.back.nearest_float64.Goals as goal
+
+-- the code's literal, by its bits
+literal : of_bits binary64 4751297606875873280 ≡ unit binary64
+unfolding of_bits
+literal = refl
+
+pub returns : goal.returns
+returns c = halves_nearest binary64 _ _ _ c.ranges.word.fits (record { sfits = c.of_word32-high.type_inv }) c.of_word32-high.ensures literal
