@@ -1,0 +1,35 @@
+-- `sizes::vector_size` meets its contract: a vector's bytes can be counted. Assumes nothing.
+use mathlib.Core.Path.{ap, ap₂, ◌∙◌}
+use Prim.Native.Nat.{ℕ, ◌+◌, ◌*◌, ◌≤◌}
+use native.Mathlib.Omega.{arith}
+use Rattle.rules.specs.Kind.{meta_bytes, word_bytes}
+use Rattle.checks.specs.Forms.{format_of}
+use Rattle.checks.proofs.Bounds.{small}
+use Rattle.checks.proofs.sizes.vector_size.Goals as goal
+
+pub overflow_mul-result : goal.overflow_mul-result
+overflow_mul-result c =
+    let few : c.args.listed * (2 + c.value_bytes-word.result) ≤ 65535 * 10 =
+    small c.args.listed (2 + c.value_bytes-word.result) {c = 65535} {d = 10} (omega arith) (omega arith)
+    in
+    omega (arith, few)
+
+pub overflow_add-result-2 : goal.overflow_add-result-2
+overflow_add-result-2 c =
+    let few : c.args.listed * (2 + c.value_bytes-word.result) ≤ 65535 * 10 =
+    small c.args.listed (2 + c.value_bytes-word.result) {c = 65535} {d = 10} (omega arith) (omega arith)
+    in
+    omega (arith, few)
+
+pub overflow_add-result-3 : goal.overflow_add-result-3
+overflow_add-result-3 c =
+    let few : c.args.listed * (2 + c.value_bytes-word.result) ≤ 65535 * 10 =
+    small c.args.listed (2 + c.value_bytes-word.result) {c = 65535} {d = 10} (omega arith) (omega arith)
+    in
+    omega (arith, few)
+
+pub returns : goal.returns
+returns c =
+    let a = c.args in
+    ap₂ (λ (x y : ℕ). x + (c.packed_size-packed.result + a.listed * (2 + y))) c.meta_bytes.ensures.0 c.value_bytes-word.ensures.0
+    ∙ ap (λ (x : ℕ). meta_bytes (format_of a.kind) + (x + a.listed * (2 + word_bytes (format_of a.kind)))) c.packed_size-packed.ensures.0
