@@ -1,0 +1,33 @@
+-- `lists::put_all_bits64` meets its contract. Assumes nothing.
+use native.Mathlib.Omega.{arith}
+use lib.ListN.{get_or}
+use lib.Ieee.{binary64}
+use Rattle.decimal.specs.Scale.{pair64}
+use mathlib.Core.Path.{refl}
+use Rattle.encode.proofs.Listed.{patterns_start, patterns_room, patterns_put, patterns_end}
+use Rattle.encode.proofs.lists.put_all_bits64.Goals as goal
+
+pub loop-i-init : goal.loop-i-init
+loop-i-init c = let a = c.args in patterns_start binary64 (pair64 a.scale) a.values.now a.out.now c.requires.1
+
+pub put_bits64-at-requires : goal.put_bits64-at-requires
+put_bits64-at-requires c =
+    let a = c.args in
+    let l = c.loop-i in
+    patterns_room binary64 (pair64 a.scale) a.values.now l.i l.out a.out.now l.at l.invariant c.loop-i-test.true (get_or a.values.now l.i 0) c.is_exception64-listed.result refl c.is_exception64-listed.ensures
+
+pub loop-i-preserved : goal.loop-i-preserved
+loop-i-preserved c =
+    let a = c.args in
+    let l = c.loop-i in
+    let u = c.put_bits64-at in
+    patterns_put binary64 (pair64 a.scale) a.values.now l.i l.out a.out.now l.at l.invariant c.loop-i-test.true (get_or a.values.now l.i 0) c.is_exception64-listed.result refl c.is_exception64-listed.ensures u.new.out u.result u.ensures.0 u.ensures.1
+
+pub shape_of-out : goal.shape_of-out
+shape_of-out c = c.loop-i.invariant.stream.same
+
+pub returns : goal.returns
+returns c =
+    let a = c.args in
+    let l = c.loop-i in
+    patterns_end binary64 (pair64 a.scale) a.values.now l.i l.out a.out.now l.at l.invariant (omega (arith, c.loop-i-test.false))

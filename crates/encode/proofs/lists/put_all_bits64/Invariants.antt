@@ -1,0 +1,13 @@
+-- `lists::put_all_bits64` meets its contract. Assumes nothing.
+use Prim.Native.Nat.{◌-◌}
+use lib.ListN.{length}
+use lib.Ieee.{binary64}
+use Rattle.decimal.specs.Scale.{pair64}
+use Rattle.encode.proofs.Listed.{Patterns}
+use Rattle.encode.proofs.lists.put_all_bits64.Given as goal
+
+abbrev pub invariant-loop-i : goal.invariant-loop-i
+invariant-loop-i l = Patterns binary64 (pair64 l.scale) l.values l.i l.out l.initial.out l.at
+
+abbrev pub decreases-loop-i : goal.decreases-loop-i
+decreases-loop-i l = length l.values - l.i

@@ -1,0 +1,11 @@
+-- `scan::begin32` meets its contract. Assumes nothing.
+use mir.Syntax.{w32}
+use Rattle.encode.specs.Seen.{as_seen32}
+use Rattle.encode.proofs.Words.{begun-some, begun-none}
+use Rattle.encode.proofs.scan.begin32.Goals as goal
+
+pub returns-then-listed-count : goal.returns-then-listed-count
+returns-then-listed-count c = begun-some (as_seen32 c.args.seen) _ c.if-listed-count.true
+
+pub returns : goal.returns
+returns c = begun-none w32 (as_seen32 c.args.seen) _ c.stand_in32-first.result c.if-listed-count.false (record { sfits = c.stand_in32-first.type_inv }) c.stand_in32-first.ensures

@@ -1,0 +1,13 @@
+-- `vector::pack32` meets its contract. Assumes nothing.
+use Rattle.std.proofs.Common.{◌-◌, ◌≤◌, length}
+use lib.Ieee.{binary32}
+use Rattle.digits.proofs.Fields.{Packing}
+use Rattle.decimal.specs.Scale.{pair32}
+use Rattle.encode.specs.Vectors.{fields_in}
+use Rattle.encode.proofs.vector.pack32.Given as goal
+
+abbrev pub invariant-loop-i : goal.invariant-loop-i
+invariant-loop-i l = (l.i ≤ length l.values) × Packing l.width (fields_in binary32 (pair32 l.scale) l.values) l.i l.start l.out
+
+abbrev pub decreases-loop-i : goal.decreases-loop-i
+decreases-loop-i l = length l.values - l.i
