@@ -44,7 +44,7 @@ module _ (fmt : Format) (n : ℕ) (m : Meta) (part other : List ℕ) (same : tak
 
   -- what any k bytes decide, these k bytes decide
   front : {A : Type 0} (f : List ℕ → A) → ((l : List ℕ) → k ≤ length l → f (take k l ++ drop k l) ≡ f (take k l)) → f part ≡ f other
-  front f h = sym (front_decides f k part (h part)) ∙ ap f same ∙ first_of f k other (h other)
+  front f h = sym (front_decides f k part (h part)) ∙ ap f same ∙ front_decides f k other (h other)
 
   part_meta : meta_at fmt part ≡ meta_at fmt other
   part_meta = front (meta_at fmt) (λ l h. meta_same fmt (take k l) (drop k l) (omega (arith, length-take-le k l h)))

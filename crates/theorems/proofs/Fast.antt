@@ -147,6 +147,8 @@ module _ (fmt : Format) (k : ℕ) where
 
   less_constant : (x : Float) (q : ℕ) → HasValue x false q 1 → q < constant → sub fmt x (fin false 3 (pos k)) ≡ round fmt true (constant - q) 1
   unfolding sub neg add sum
+  less_constant nan q x h = absurd x
+  less_constant (inf s) q x h = absurd x
   less_constant (fin true m e) q (s, v) h = absurd (true≢false s)
   less_constant (fin false m e) q (s, v) h =
       let d = down e in
@@ -155,6 +157,8 @@ module _ (fmt : Format) (k : ℕ) where
 
   more_constant : (x : Float) (q : ℕ) → HasValue x false q 1 → constant ≤ q → sub fmt x (fin false 3 (pos k)) ≡ round fmt false (q - constant) 1
   unfolding sub neg add sum
+  more_constant nan q x h = absurd x
+  more_constant (inf s) q x h = absurd x
   more_constant (fin true m e) q (s, v) h = absurd (true≢false s)
   more_constant (fin false m e) q (s, v) h =
       let d = down e in
