@@ -145,6 +145,9 @@ module _ (fmt : Format) (s : ℕ) (pairs vs : List ℕ) where
   unfolding measure_of
   measured-done n ok en = record { answer_is = rw ok (ap done_with en) }
 
--- the count of vectors, as the code works it out
+-- the size and the count of vectors, as the code works them out
+pub size-is : (s power size : ℕ) → power ≡ s → size ≡ 2 ^ power → size ≡ 2 ^ s
+size-is s power size ep es = es ∙ ap (λ (x : ℕ). 2 ^ x) ep
+
 pub count-is : (s n power size count : ℕ) → power ≡ s → size ≡ 2 ^ power → count ≡ (n + (size - 1)) / size → count ≡ vectors s n
 count-is s n power size count ep es ec = ec ∙ ap (λ (z : ℕ). (n + (z - 1)) / z) (es ∙ ap (λ (x : ℕ). 2 ^ x) ep)

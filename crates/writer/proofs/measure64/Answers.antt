@@ -1,0 +1,31 @@
+-- `measure64` meets its contract. Assumes nothing.
+use mathlib.Core.Path.{◌≡◌, refl, sym, ap, ◌∙◌}
+use lib.Ieee.{binary64}
+use Rattle.rules.specs.Verdict.{fine, verdict}
+use Rattle.rules.specs.Write.{settings_rows}
+use Rattle.checks.specs.Forms.{as_verdict}
+use Rattle.checks.proofs.Refusals.{check_fine}
+use Rattle.writer.proofs.Rows.{settled, measured-refused, measured-done}
+use Rattle.writer.proofs.measure64.Goals as goal
+
+pub returns-in-No : goal.returns-in-No
+returns-in-No c =
+    let a = c.args in
+    let r = c.check_settings-settings in
+    measured-refused binary64 a.s a.pairs.now a.values.now _ (sym (ap as_verdict c.in-No.is) ∙ r.ensures a.values.now refl)
+
+pub measure_page64-found-requires : goal.measure_page64-found-requires
+measure_page64-found-requires c =
+    let passes : verdict (settings_rows binary64 c.args.s c.args.pairs.now c.args.values.now) ≡ fine =
+    let r = c.check_settings-settings in check_fine r.result (r.ensures c.args.values.now refl) c.in_default.is
+    in
+    let a = c.args in
+    settled binary64 a.s a.pairs.now a.values.now passes
+
+pub returns : goal.returns
+returns c =
+    let passes : verdict (settings_rows binary64 c.args.s c.args.pairs.now c.args.values.now) ≡ fine =
+    let r = c.check_settings-settings in check_fine r.result (r.ensures c.args.values.now refl) c.in_default.is
+    in
+    let a = c.args in
+    measured-done binary64 a.s a.pairs.now a.values.now c.measure_page64-found.result.size passes c.measure_page64-found.ensures.0

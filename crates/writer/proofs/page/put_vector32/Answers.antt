@@ -1,0 +1,21 @@
+-- `page::put_vector32` meets its contract. Assumes nothing.
+use mathlib.Core.Path.{◌≡◌}
+use native.Mathlib.Omega.{arith}
+use lib.ListN.{length, length-take, length-drop}
+use lib.Ieee.{binary32}
+use Rattle.decimal.specs.Scale.{pair32}
+use Rattle.encode.specs.Vectors.{bytes_of}
+use Rattle.writer.proofs.Pages.{vector-put}
+use Rattle.writer.proofs.page.put_vector32.Goals as goal
+
+pub write_vector32-requires : goal.write_vector32-requires
+write_vector32-requires c =
+    let n : length c.store_u32.new.out ≡ length c.args.out.now = c.store_u32.auto.out in
+    (c.requires.0, c.requires.1, c.requires.2, rw (length-take, length-drop) (omega (arith, n, c.requires.5)))
+
+pub returns : goal.returns
+returns c =
+    let a = c.args in
+    let w = c.write_vector32 in
+    let u = c.store_u32 in
+    (w.ensures.0, vector-put a.out.now u.new.out w.new.out (bytes_of binary32 (pair32 a.scale) a.values.now) a.entry a.offset u.ensures w.ensures.1)
