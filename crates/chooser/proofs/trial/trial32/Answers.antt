@@ -1,0 +1,52 @@
+-- `trial::trial32` meets its contract. Assumes nothing.
+use mathlib.Core.Path.{sym, subst}
+use native.Mathlib.Omega.{arith}
+use lib.Ieee.{binary32}
+use Rattle.decimal.specs.Scale.{pair32}
+use Rattle.decimal.specs.Turn.{as_try32}
+use Rattle.encode.specs.Seen.{as_seen32}
+use Rattle.chooser.proofs.Looking.{Looked, look_start, look_count, look_kept, look_next, look_left, look_end}
+use Rattle.chooser.proofs.trial.trial32.Goals as goal
+
+pub loop-i-init : goal.loop-i-init
+loop-i-init c =
+    let a = c.args in
+    subst (Looked binary32 (pair32 a.scale) a.values.now 0) (sym c.nothing32-seen.ensures) (look_start binary32 (pair32 a.scale) a.values.now)
+
+pub at_least32-floor-requires : goal.at_least32-floor-requires
+at_least32-floor-requires c =
+    let l = c.loop-i in
+    let a = c.args in
+    let k = look_count binary32 (pair32 a.scale) a.values.now l.i (as_seen32 l.seen) l.invariant in
+    (look_kept binary32 (pair32 a.scale) a.values.now l.i (as_seen32 l.seen) l.invariant c.requires.1, omega (arith, k, l.invariant.within), c.requires.1)
+
+pub returns-then-best-floor : goal.returns-then-best-floor
+returns-then-best-floor c =
+    let l = c.loop-i in
+    let a = c.args in
+    look_left binary32 (pair32 a.scale) a.values.now l.i (as_seen32 l.seen) l.invariant a.best c.at_least32-floor.result c.at_least32-floor.ensures (omega (arith, c.if-best-floor.true))
+
+pub see_next32-seen-requires : goal.see_next32-seen-requires
+see_next32-seen-requires c =
+    let l = c.loop-i in
+    let a = c.args in
+    let k = look_kept binary32 (pair32 a.scale) a.values.now l.i (as_seen32 l.seen) l.invariant c.requires.1 in
+    (k.few, k.short)
+
+pub loop-i-preserved : goal.loop-i-preserved
+loop-i-preserved c =
+    let l = c.loop-i in
+    let a = c.args in
+    look_next binary32 (pair32 a.scale) a.values.now l.i (as_seen32 l.seen) l.invariant c.loop-i-test.true (as_try32 c.whole32-turned.result) (as_seen32 c.see_next32-seen.result) c.whole32-turned.ensures c.see_next32-seen.ensures
+
+pub vector_size32-requires : goal.vector_size32-requires
+vector_size32-requires c =
+    let l = c.loop-i in
+    let a = c.args in
+    look_kept binary32 (pair32 a.scale) a.values.now l.i (as_seen32 l.seen) l.invariant c.requires.1
+
+pub returns : goal.returns
+returns c =
+    let l = c.loop-i in
+    let a = c.args in
+    look_end binary32 (pair32 a.scale) a.values.now l.i (as_seen32 l.seen) l.invariant c.loop-i-test.false a.best c.vector_size32.result c.vector_size32.ensures
