@@ -1,4 +1,4 @@
-//! Tells the linker where the archive libabi.a lies: in the folder that STRAHNUK_LIB names, or else where `rt staticlib abi` puts it.
+//! Tells the linker where the archive libabi.a lies: in the folder that STRAHNUK_LIB names, or else where link/archive puts it.
 use std::env;
 use std::path::PathBuf;
 
@@ -15,7 +15,7 @@ fn main() {
     let archive = folder.join("libabi.a");
     if !archive.is_file() {
         panic!(
-            "{} is missing: run `rt staticlib abi` in the project's root folder, or set STRAHNUK_LIB to the folder of libabi.a",
+            "{} is missing: run link/archive in the project's root folder, or set STRAHNUK_LIB to the folder of libabi.a",
             archive.display()
         );
     }

@@ -42,7 +42,7 @@
 //!
 //! # Linking
 //!
-//! `rt staticlib abi`, in the project's root folder, makes the archive. The build script looks for it there, in `target/staticlib`, or in
+//! `link/archive`, in the project's root folder, makes the archive. The build script looks for it there, in `target/staticlib`, or in
 //! the folder that the environment variable `STRAHNUK_LIB` names. The archive is for x86-64 alone.
 //!
 //! # What stands around a call
