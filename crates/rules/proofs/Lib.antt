@@ -11,3 +11,5 @@ pub mod Settings
 pub mod Decoded
 pub mod ReadingVector
 pub mod Powers
+pub mod Recordings
+pub mod Edges

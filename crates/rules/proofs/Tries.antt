@@ -9,13 +9,13 @@ use mathlib.Core.Option.{none, some}
 use lib.Dec.{eqb, ltb, lit<}
 use lib.IntN.{ℤ, pos}
 use lib.Signed.{mag}
-use lib.Ieee.{Format, binary32, binary64, Float, nan, inf, fin, up, down, prec, round, of_int, of_bits, is_nan}
+use lib.Ieee.{Format, binary32, binary64, Float, nan, inf, fin, up, down, prec, round, of_int, of_bits}
 use lib.Ieee.Fits.{down_pos}
 use lib.Ieee.Exact.{HasValue}
 use lib.Ieee.Nearest.{div_mono, div_same}
 use mir.Val.{hbits}
 use Rattle.rules.specs.Kind.{word, max_scaled, rounding_constant}
-use Rattle.rules.specs.Decimal.{Pair, exception, tried, back, scaled, rounded, truncated, whole, beyond, is_infinite, is_negative_zero, signed}
+use Rattle.rules.specs.Decimal.{Pair, exception, tried, back, scaled, rounded, truncated, whole, beyond, signed}
 use borrow.Author.Tests.{lt-ltb, le-ltb, ltb-false, eqb-true, not-false}
 use Rattle.rules.proofs.Rows.{or_false}
 
@@ -111,6 +111,5 @@ tried-some fmt p b z e =
     let x : Float = of_bits fmt b in
     let y : Float = scaled fmt p x in
     let r : Float = rounded fmt y in
-    let special : Bool = is_nan x || is_infinite x || is_negative_zero x in
-    let k = kept_back fmt p b (special || beyond fmt y || beyond fmt r) (truncated r) z e in
-    (k.2, subst (Held fmt) k.1 (truncated-held fmt r (or_false (special || beyond fmt y) (beyond fmt r) k.0).1))
+    let k = kept_back fmt p b _ (truncated r) z e in
+    (k.2, subst (Held fmt) k.1 (truncated-held fmt r (or_false _ _ k.0).1))

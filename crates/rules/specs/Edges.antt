@@ -1,12 +1,13 @@
 -- A second table of calls with what each must give: what the starred recordings leave open. It pins the arithmetic where a likely mistake
--- shows, the shapes of a page, every row with its vector number and place, and the order of the rows. Assumes nothing.
-use Rattle.std.specs.Prelude.{ℕ, zero, suc, ◌+◌, ◌-◌, ◌*◌, ◌/◌, ◌≡◌, refl, true, List, [], ◌∷◌, ◌++◌, length, replicate, ℤ, pos, neg_ℤ}
+-- shows, the shapes of a page, every row with its vector number and place, and the order of the rows. That the written rules give just that
+-- is proved in rules/proofs/Edges. Assumes nothing.
+use Rattle.std.specs.Prelude.{ℕ, zero, suc, ◌+◌, ◌-◌, ◌*◌, ◌/◌, List, [], ◌∷◌, ◌++◌, length, replicate, ℤ, pos, neg_ℤ}
 use Rattle.std.specs.Float.{Format, binary32, binary64}
 use Rattle.std.proofs.Common.{of_z}
 use Rattle.digits.specs.Digits.{le}
 use Rattle.rules.specs.Kind.{word, word_bits, word_bytes}
 use Rattle.rules.specs.Verdict.{Point, the_page, in_vector, in_vector_at, done, refused, done_with, refusal}
-use Rattle.rules.specs.Recordings.{hex, Line, writes, measures, reads, reads_vector, examines, chooses, written, flawed, moved, faulty, all_hold, all_rules}
+use Rattle.rules.specs.Recordings.{hex, Line, writes, measures, reads, reads_vector, examines, chooses, written, flawed, moved, faulty}
 use Rattle.rules.specs.declared.Choice.{Choice}
 
 -- ---- parts that many pages share, so that a line shows what is its own
@@ -948,11 +949,3 @@ choosing =
 
 unfoldable pub edges : List Line
 edges = arithmetic ++ rounding ++ returns ++ shapes ++ refusals ++ sums ++ flaws ++ older ++ settings ++ alone
-
-pub edges_hold : all_hold edges ≡ true
-unfolding all_rules rising edges arithmetic rounding returns shapes refusals ranges ranks sums flaws older settings alone
-edges_hold = refl
-
-pub choosing_holds : all_hold choosing ≡ true
-unfolding all_rules choosing
-choosing_holds = refl

@@ -1,5 +1,5 @@
 -- The page, byte by byte (document 01; 004, section 2): how it is laid out, and how the parts of any bytes are read. Assumes nothing.
-use Rattle.std.specs.Prelude.{ℕ, zero, suc, ◌+◌, ◌-◌, ◌*◌, ◌/◌, ◌^◌, min, List, [], ◌∷◌, ◌++◌, map, length, take, drop, get_or}
+use Rattle.std.specs.Prelude.{ℕ, ◌+◌, ◌-◌, ◌*◌, ◌/◌, ◌^◌, min, List, [], ◌∷◌, ◌++◌, length, take, drop, get_or}
 use Rattle.std.specs.Float.{Format}
 use Rattle.digits.specs.Digits.{le, les, number, numbers, packed_size}
 use Rattle.rules.specs.Kind.{word_bytes, meta_bytes}

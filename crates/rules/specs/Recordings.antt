@@ -1,6 +1,7 @@
--- Calls with what each must give, as lines of a table; and document 01's starred recordings, R1 to R11, as one table with one statement:
--- the written rules give what the document says, and document 02 where it changed R8 and R9. Assumes nothing.
-use Rattle.std.specs.Prelude.{ℕ, zero, suc, ◌-◌, ◌/◌, ◌%◌, ◌^◌, ◌≡◌, refl, Bool, true, false, ◌&&◌, List, [], ◌∷◌, ◌++◌, length, eqb}
+-- Calls with what each must give, as lines of a table; and document 01's starred recordings, R1 to R11, as one table: what the document
+-- says, and document 02 where it changed R8 and R9. That the written rules give just that is proved in rules/proofs/Recordings. Assumes
+-- nothing.
+use Rattle.std.specs.Prelude.{ℕ, zero, suc, ◌-◌, ◌/◌, ◌%◌, ◌^◌, Bool, true, false, ◌&&◌, List, [], ◌∷◌, ◌++◌, length, eqb}
 use Rattle.std.specs.Float.{Format, binary32, binary64}
 use Rattle.digits.specs.Digits.{every_digit}
 use Rattle.rules.specs.Kind.{max_values}
@@ -145,7 +146,3 @@ starred =
     (0x40E00000 ∷ 0x40E00000 ∷ [])
     24 (in_vector 0)
     ∷ []
-
-pub starred_hold : all_hold starred ≡ true
-unfolding all_rules starred
-starred_hold = refl
