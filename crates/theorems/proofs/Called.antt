@@ -10,7 +10,7 @@ use lib.Dec.{T, T_not}
 use Rattle.rules.specs.declared.Answer.{Answer}
 use Rattle.digits.specs.Lists.{Each, over}
 use Rattle.digits.proofs.Lists.{length_over}
-use Rattle.rules.specs.Verdict.{Point, Rows, Verdict, ordered, Passes, FirstTrue, fine, refuse, verdict, Result, done, refused, settle, call, answer, refusal}
+use Rattle.rules.specs.Verdict.{Point, Rows, Verdict, ordered, Passes, FirstTrue, fine, refuse, verdict, Result, done, refused, settle, call, answer}
 use mathlib.Core.Logic.{◌⊎◌, inl, inr}
 use Rattle.rules.specs.Calls.{among}
 use Rattle.rules.specs.Demands.{Answers, Leaves}
