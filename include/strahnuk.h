@@ -2,7 +2,7 @@
  * The public calls of Strahnuk for C99 and C++: pages of ALP-encoded floats, written, read and examined, and the pairs to write them with.
  *
  * Link with the archive that link/archive makes, target/staticlib/libabi.a. It is for x86-64 under the System V calling convention
- * (Linux), and needs nothing but memset.
+ * (Linux), and needs nothing but memset and memcpy.
  *
  * Values are bit patterns: a double goes in and comes out as the uint64_t that memcpy makes of it. A vector holds 2^s values, and every
  * vector is full but perhaps the last. `pairs` has two bytes per vector, exponent then factor. Every call ends with an answer, whatever
