@@ -1,142 +1,154 @@
 // Answers as a person reads them: document 01's three numbers, and a sentence.
 #![tactic(auto)]
 
-use libc::{STDERR_FILENO, STDOUT_FILENO};
+mod output;
+
+pub use output::Output;
 use rules::Answer;
 
 // ---- pieces of a line
 
-pub fn text(t: &[u8]) {
-    io::write_all(STDOUT_FILENO, t);
+pub fn text(to: &mut Output, t: &[u8]) {
+    to.say(t);
 }
 
 // The same on standard error, where a program says why it did nothing.
-pub fn error(t: &[u8]) {
-    io::write_all(STDERR_FILENO, t);
+pub fn error(to: &mut Output, t: &[u8]) {
+    to.complain(t);
 }
 
-pub fn number(n: u64) {
-    io::print_decimal(STDOUT_FILENO, n);
+pub fn number(to: &mut Output, n: u64) {
+    to.show(n);
 }
 
 // n of something, one of which is called `one`.
-pub fn count(n: u64, one: &[u8]) {
-    number(n);
-    text(b" ");
-    text(one);
+pub fn count(to: &mut Output, n: u64, one: &[u8]) {
+    number(to, n);
+    text(to, b" ");
+    text(to, one);
     if n != 1 {
-        text(b"s");
+        text(to, b"s");
     }
 }
 
 // ---- answers
 
-fn numbers(a: Answer) {
-    number(a.number);
-    text(b" ");
-    number(a.vector);
-    text(b" ");
-    number(a.place);
-    text(b": ");
+fn numbers(to: &mut Output, a: Answer) {
+    number(to, a.number);
+    text(to, b" ");
+    number(to, a.vector);
+    text(to, b" ");
+    number(to, a.place);
+    text(to, b": ");
 }
 
 // A done: what was done, and how many of what the place counts.
-pub fn done(a: Answer, what: &[u8], one: &[u8]) {
-    numbers(a);
-    text(what);
-    count(a.place, one);
-    text(b"\n");
+pub fn done(to: &mut Output, a: Answer, what: &[u8], one: &[u8]) {
+    numbers(to, a);
+    text(to, what);
+    count(to, a.place, one);
+    text(to, b"\n");
 }
 
-pub fn refusal(a: Answer) {
-    numbers(a);
-    where_at(a);
-    sentence(a.number);
-    text(b"\n");
+pub fn refusal(to: &mut Output, a: Answer) {
+    numbers(to, a);
+    where_at(to, a);
+    sentence(to, a.number);
+    text(to, b"\n");
 }
 
 // "vector V", and the place under its name, if the row has one.
-fn at_vector(a: Answer, place: &[u8]) {
-    text(b"vector ");
-    number(a.vector);
+fn at_vector(to: &mut Output, a: Answer, place: &[u8]) {
+    text(to, b"vector ");
+    number(to, a.vector);
     if 0 < place.len() {
-        text(place);
-        number(a.place);
+        text(to, place);
+        number(to, a.place);
     }
-    text(b": ");
+    text(to, b": ");
 }
 
 // The vector and the place, where the row names them. Row 7 gives vector 0 for the offsets too, so there it names none.
-fn where_at(a: Answer) {
+fn where_at(to: &mut Output, a: Answer) {
     let row = a.number;
     match row {
         7 => {
             if 0 < a.vector {
-                at_vector(a, b"");
+                at_vector(to, a, b"");
             }
         }
-        8..=12 | 20 | 24 => at_vector(a, b""),
-        13 => at_vector(a, b", list index "),
-        17 | 21..=23 => at_vector(a, b", position "),
+        8..=12 | 20 | 24 => at_vector(to, a, b""),
+        13 => at_vector(to, a, b", list index "),
+        17 | 21..=23 => at_vector(to, a, b", position "),
         _ => {}
     }
 }
 
 // ---- document 01's table, and the rows that came later: 17, and those from 30 up
 
-fn sentence(row: u64) {
+fn sentence(to: &mut Output, row: u64) {
     match row {
-        1..=6 => header_row(row),
-        7..=13 => vector_row(row),
-        14..=16 => lent_row(row),
-        17 => text(b"frame plus field leaves the kind's signed range"),
-        20..=24 => rule_row(row),
-        30 => text(b"there is no vector of that number"),
-        31 => text(b"no values, or more than 1,024"),
-        _ => text(b"not a row of the table"),
+        1..=6 => header_row(to, row),
+        7..=13 => vector_row(to, row),
+        14..=16 => lent_row(to, row),
+        17 => text(to, b"frame plus field leaves the kind's signed range"),
+        20..=24 => rule_row(to, row),
+        30 => text(to, b"there is no vector of that number"),
+        31 => text(to, b"no values, or more than 1,024"),
+        _ => text(to, b"not a row of the table"),
     }
 }
 
-fn header_row(row: u64) {
+fn header_row(to: &mut Output, row: u64) {
     match row {
-        1 => text(b"fewer than 8 bytes"),
-        2 => text(b"the version is not 1"),
-        3 => text(b"the mode is not 0"),
-        4 => text(b"the integer encoding is not 0"),
-        5 => text(b"s is below 3 or above 10"),
-        _ => text(b"more than 16,384 values"),
+        1 => text(to, b"fewer than 8 bytes"),
+        2 => text(to, b"the version is not 1"),
+        3 => text(to, b"the mode is not 0"),
+        4 => text(to, b"the integer encoding is not 0"),
+        5 => text(to, b"s is below 3 or above 10"),
+        _ => text(to, b"more than 16,384 values"),
     }
 }
 
-fn vector_row(row: u64) {
+fn vector_row(to: &mut Output, row: u64) {
     match row {
-        7 => text(b"the offsets, a vector's metadata or its data run past the end"),
-        8 => text(b"an offset differs from the layout's"),
-        9 => text(b"the exponent is above the kind's largest"),
-        10 => text(b"the factor is above the exponent"),
-        11 => text(b"more exceptions than values in the vector"),
-        12 => text(b"the width is above the kind's"),
-        _ => text(b"a position is not below the vector's count, or not above the one before"),
+        7 => text(
+            to,
+            b"the offsets, a vector's metadata or its data run past the end",
+        ),
+        8 => text(to, b"an offset differs from the layout's"),
+        9 => text(to, b"the exponent is above the kind's largest"),
+        10 => text(to, b"the factor is above the exponent"),
+        11 => text(to, b"more exceptions than values in the vector"),
+        12 => text(to, b"the width is above the kind's"),
+        _ => text(
+            to,
+            b"a position is not below the vector's count, or not above the one before",
+        ),
     }
 }
 
-fn lent_row(row: u64) {
+fn lent_row(to: &mut Output, row: u64) {
     match row {
-        14 => text(b"bytes after the last vector"),
-        15 => text(b"the lent output is too short"),
-        _ => text(b"the pairs are not one per vector"),
+        14 => text(to, b"bytes after the last vector"),
+        15 => text(to, b"the lent output is too short"),
+        _ => text(to, b"the pairs are not one per vector"),
     }
 }
 
 // The rows that the examiner alone gives.
-fn rule_row(row: u64) {
+fn rule_row(to: &mut Output, row: u64) {
     match row {
-        20 => text(b"an unused packed bit is 1"),
+        20 => text(to, b"an unused packed bit is 1"),
         21 => text(
+            to,
             b"an unlisted whole number comes back as a value that is an exception, or that turns into another whole number",
         ),
-        22 => text(b"a listed value is no exception"),
-        23 => text(b"a listed position does not hold the stand-in"),
-        _ => text(b"the frame is not the smallest, or the width is not the fewest bits"),
+        22 => text(to, b"a listed value is no exception"),
+        23 => text(to, b"a listed position does not hold the stand-in"),
+        _ => text(
+            to,
+            b"the frame is not the smallest, or the width is not the fewest bits",
+        ),
     }
 }
