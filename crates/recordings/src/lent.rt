@@ -4,13 +4,14 @@ ghost use Rattle.std.specs.Prelude.{◌≤◌, length};
 
 use crate::show::{bytes, end, line, number, text};
 use rules::Answer;
+use sentences::Output;
 use writer::{measure32, measure64, write32, write64};
 
-fn said(kind: u64, room: usize, a: Answer) {
-    number(kind);
-    text(b" exceptions, room ");
-    number(room as u64);
-    line(b"", b": ", a);
+fn said(to: &mut Output, kind: u64, room: usize, a: Answer) {
+    number(to, kind);
+    text(to, b" exceptions, room ");
+    number(to, room as u64);
+    line(to, b"", b": ", a);
 }
 
 // Exponent 1 for the first vector, 0 for the second.
@@ -40,33 +41,34 @@ fn out32() -> [u8; 81] {
     [0xEE; 81]
 }
 
-fn measured32() {
+fn measured32(to: &mut Output) {
     let values = column32();
     let pairs = pairs();
     line(
+        to,
         b"32 exceptions",
         b" measure ",
         measure32(&values, 3, &pairs),
     );
-    end();
+    end(to);
 }
 
-fn lent32(room: usize, out: &mut [u8])
+fn lent32(to: &mut Output, room: usize, out: &mut [u8])
     requires { room ≤ length out.old }
 {
     let values = column32();
     let pairs = pairs();
     let answer = write32(&values, 3, &pairs, &mut out[0..room]);
-    said(32, room, answer);
-    bytes(out, 81);
-    end();
+    said(to, 32, room, answer);
+    bytes(to, out, 81);
+    end(to);
 }
 
-fn written32(room: usize)
+fn written32(to: &mut Output, room: usize)
     requires { room ≤ 81 }
 {
     let mut out = out32();
-    lent32(room, &mut out);
+    lent32(to, room, &mut out);
 }
 
 // ---- 64-bit floats: the page has 8 + 2 * 4 + (13 + 4 + 6 * 10) + (13 + 0 + 1 * 10) = 116 bytes
@@ -91,44 +93,45 @@ fn out64() -> [u8; 117] {
     [0xEE; 117]
 }
 
-fn measured64() {
+fn measured64(to: &mut Output) {
     let values = column64();
     let pairs = pairs();
     line(
+        to,
         b"64 exceptions",
         b" measure ",
         measure64(&values, 3, &pairs),
     );
-    end();
+    end(to);
 }
 
-fn lent64(room: usize, out: &mut [u8])
+fn lent64(to: &mut Output, room: usize, out: &mut [u8])
     requires { room ≤ length out.old }
 {
     let values = column64();
     let pairs = pairs();
     let answer = write64(&values, 3, &pairs, &mut out[0..room]);
-    said(64, room, answer);
-    bytes(out, 117);
-    end();
+    said(to, 64, room, answer);
+    bytes(to, out, 117);
+    end(to);
 }
 
-fn written64(room: usize)
+fn written64(to: &mut Output, room: usize)
     requires { room ≤ 117 }
 {
     let mut out = out64();
-    lent64(room, &mut out);
+    lent64(to, room, &mut out);
 }
 
-pub fn run() {
-    measured32();
-    written32(81);
-    written32(80);
-    written32(79);
-    written32(0);
-    measured64();
-    written64(117);
-    written64(116);
-    written64(115);
-    written64(0);
+pub fn run(to: &mut Output) {
+    measured32(to);
+    written32(to, 81);
+    written32(to, 80);
+    written32(to, 79);
+    written32(to, 0);
+    measured64(to);
+    written64(to, 117);
+    written64(to, 116);
+    written64(to, 115);
+    written64(to, 0);
 }

@@ -15,14 +15,23 @@ mod starred;
 mod sums;
 mod vectors;
 
-fn main() {
-    starred::run();
-    refused::run();
-    examined::run();
-    rounded::run();
-    sums::run();
-    vectors::run();
-    chosen::run();
-    lent::run();
-    columns::run();
+use sentences::Output;
+use std::io;
+
+fn all(to: &mut Output) {
+    starred::run(to);
+    refused::run(to);
+    examined::run(to);
+    rounded::run(to);
+    sums::run(to);
+    vectors::run(to);
+    chosen::run(to);
+    lent::run(to);
+    columns::run(to);
+}
+
+fn main(rt: HostRuntime) -> io::Result<()> {
+    let mut to = Output::new(rt.stdout(), rt.stderr());
+    all(&mut to);
+    to.finish()
 }

@@ -1,79 +1,64 @@
 // Prints answers, bytes and values.
-use libc::STDOUT_FILENO;
 use rules::Answer;
-
-pub fn text(t: &[u8]) {
-    io::write_all(STDOUT_FILENO, t);
-}
-
-pub fn number(n: u64) {
-    io::print_decimal(STDOUT_FILENO, n);
-}
+use sentences::Output;
+pub use sentences::{number, text};
 
 // A name, the call, and the answer's three numbers.
-pub fn line(name: &[u8], call: &[u8], a: Answer) {
-    text(name);
-    text(call);
-    number(a.number);
-    text(b" ");
-    number(a.vector);
-    text(b" ");
-    number(a.place);
+pub fn line(to: &mut Output, name: &[u8], call: &[u8], a: Answer) {
+    text(to, name);
+    text(to, call);
+    number(to, a.number);
+    text(to, b" ");
+    number(to, a.vector);
+    text(to, b" ");
+    number(to, a.place);
 }
 
-fn byte(b: u8) {
-    text(b" ");
-    io::print_hex(STDOUT_FILENO, b as u64, 2);
+fn byte(to: &mut Output, b: u8) {
+    text(to, b" ");
+    to.show(format_args!("{b:02x}"));
 }
 
-fn value32(v: u32) {
-    text(b" ");
-    io::print_hex(STDOUT_FILENO, v as u64, 8);
+fn value32(to: &mut Output, v: u32) {
+    text(to, b" ");
+    to.show(format_args!("{v:08x}"));
 }
 
-fn value64(v: u64) {
-    text(b" ");
-    io::print_hex(STDOUT_FILENO, v, 16);
+fn value64(to: &mut Output, v: u64) {
+    text(to, b" ");
+    to.show(format_args!("{v:016x}"));
 }
 
 // The first `count` bytes, and so for values.
-pub fn bytes(t: &[u8], count: u64) {
-    let mut i: usize = 0;
-    while i < t.len() {
+pub fn bytes(to: &mut Output, t: &[u8], count: u64) {
+    for (i, b) in t.iter().enumerate() {
         if (i as u64) < count {
-            byte(t[i]);
+            byte(to, *b);
         }
-        i += 1;
     }
 }
 
-pub fn values32(t: &[u32], count: u64) {
-    let mut i: usize = 0;
-    while i < t.len() {
+pub fn values32(to: &mut Output, t: &[u32], count: u64) {
+    for (i, v) in t.iter().enumerate() {
         if (i as u64) < count {
-            value32(t[i]);
+            value32(to, *v);
         }
-        i += 1;
     }
 }
 
-pub fn values64(t: &[u64], count: u64) {
-    let mut i: usize = 0;
-    while i < t.len() {
+pub fn values64(to: &mut Output, t: &[u64], count: u64) {
+    for (i, v) in t.iter().enumerate() {
         if (i as u64) < count {
-            value64(t[i]);
+            value64(to, *v);
         }
-        i += 1;
     }
 }
 
 // One number that tells byte strings apart.
 pub fn checksum(t: &[u8]) -> u64 {
     let mut sum: u64 = 0;
-    let mut i: usize = 0;
-    while i < t.len() {
-        sum = next_sum(sum, t[i]);
-        i += 1;
+    for b in t {
+        sum = next_sum(sum, *b);
     }
     sum
 }
@@ -82,6 +67,6 @@ fn next_sum(sum: u64, b: u8) -> u64 {
     (sum % 4294967291 * 31 + b as u64) % 4294967291
 }
 
-pub fn end() {
-    text(b"\n");
+pub fn end(to: &mut Output) {
+    text(to, b"\n");
 }
