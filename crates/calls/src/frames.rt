@@ -1,7 +1,70 @@
 // A request's first 16 bytes, an answer's 24, and the pair behind an answer.
+ghost use Rattle.std.specs.Prelude.{◌≤◌, length};
+
 use bits::numbers::{read_u32, store_u64};
-use libc::{STDIN_FILENO, STDOUT_FILENO};
 use rules::{Answer, Choice};
+use std::io;
+use std::io::{Read, Stdin, Stdout, Write};
+
+// Where requests come from and answers go. The first read or write that fails is kept and nothing is read or written behind it, so no answer
+// stands for a request that did not come whole; `finish` gives that failure, and `main` ends with it.
+#[derive(Drop)]
+pub struct Wire {
+    input: Stdin,
+    output: Stdout,
+    broken: Option<io::Error>,
+}
+
+impl Wire {
+    pub fn new(input: Stdin, output: Stdout) -> Wire {
+        Wire {
+            input,
+            output,
+            broken: None,
+        }
+    }
+
+    // Reads until the part is full or the input ends, and says how many bytes came.
+    fn read(&mut self, part: &mut [u8]) -> usize {
+        let mut done: usize = 0;
+        while done < part.len() {
+            let more = self.read_some(&mut part[done..]);
+            if more == 0 {
+                break;
+            }
+            done += more;
+        }
+        done
+    }
+
+    fn read_some(&mut self, part: &mut [u8]) -> usize
+        ensures { result ≤ length part.new }
+    {
+        if self.broken.is_some() {
+            return 0;
+        }
+        match self.input.read(part) {
+            Ok(more) => more,
+            Err(error) => {
+                self.broken = Some(error);
+                0
+            }
+        }
+    }
+
+    fn write(&mut self, part: &[u8]) {
+        if self.broken.is_none() {
+            self.broken = self.output.write_all(part).err();
+        }
+    }
+
+    pub fn finish(self) -> io::Result<()> {
+        match self.broken {
+            Some(error) => Err(error),
+            None => Ok(()),
+        }
+    }
+}
 
 // The call, the kind, s, and the three lengths.
 #[derive(Clone, Copy)]
@@ -48,9 +111,9 @@ fn known(call: u8, kind: u8, zero: u8) -> bool {
 }
 
 // The next request's numbers. No bytes at all are the end of the input, and fewer than 16 a broken request.
-pub fn head() -> Got {
+pub fn head(wire: &mut Wire) -> Got {
     let mut bytes: [u8; 16] = [0; 16];
-    let got = io::read_full(STDIN_FILENO, &mut bytes);
+    let got = wire.read(&mut bytes);
     if got == 0 {
         return Got::Nothing;
     }
@@ -78,25 +141,25 @@ pub fn head() -> Got {
 }
 
 // All of `part` from the input.
-pub fn fill(part: &mut [u8]) -> bool {
+pub fn fill(wire: &mut Wire, part: &mut [u8]) -> bool {
     let wanted = part.len();
-    io::read_full(STDIN_FILENO, part) == wanted
+    wire.read(part) == wanted
 }
 
-pub fn give(part: &[u8]) {
-    io::write_all(STDOUT_FILENO, part);
+pub fn give(wire: &mut Wire, part: &[u8]) {
+    wire.write(part);
 }
 
-pub fn answer(a: Answer) {
+pub fn answer(wire: &mut Wire, a: Answer) {
     let mut bytes: [u8; 24] = [0; 24];
     store_u64(&mut bytes, 0, a.number);
     store_u64(&mut bytes, 8, a.vector);
     store_u64(&mut bytes, 16, a.place);
-    give(&bytes);
+    give(wire, &bytes);
 }
 
-pub fn choice(c: Choice) {
+pub fn choice(wire: &mut Wire, c: Choice) {
     let pair: [u8; 2] = [c.exponent, c.factor];
-    answer(c.answer);
-    give(&pair);
+    answer(wire, c.answer);
+    give(wire, &pair);
 }

@@ -5,27 +5,28 @@ mod frames;
 mod rooms;
 mod serve;
 
-use crate::frames::{Got, head};
+use crate::frames::{Got, Wire, head};
 use crate::serve::{bad, serve};
+use std::io;
 
 // A loop has to end: this one does after more requests than anybody sends.
 const MOST: u64 = 1_000_000_000_000;
 
-fn main() {
-    let mut done: u64 = 0;
-    while done < MOST {
-        if !one() {
-            return;
+fn main(rt: HostRuntime) -> io::Result<()> {
+    let mut wire = Wire::new(rt.stdin(), rt.stdout());
+    for _ in 0..MOST {
+        if !one(&mut wire) {
+            break;
         }
-        done += 1;
     }
+    wire.finish()
 }
 
 // The next request, if there is one; whether to go on.
-fn one() -> bool {
-    match head() {
+fn one(wire: &mut Wire) -> bool {
+    match head(wire) {
         Got::Nothing => false,
-        Got::Bad => bad(),
-        Got::Sound(request) => serve(request),
+        Got::Bad => bad(wire),
+        Got::Sound(request) => serve(wire, request),
     }
 }
