@@ -2,6 +2,7 @@
 ghost use Rattle.std.specs.Prelude.{◌≤◌};
 
 use checks::kind::Kind;
+use std::env::{Env, FillError};
 
 #[derive(Clone, Copy)]
 pub enum Job {
@@ -32,27 +33,30 @@ pub enum NumberWord {
 }
 
 fn same(a: &[u8], b: &[u8]) -> bool {
-    if a.len() != b.len() {
-        return false;
-    }
-    let mut i: usize = 0;
-    while i < a.len() {
-        if a[i] != b[i] {
-            return false;
+    a == b
+}
+
+// The most words that a call of the tool has, and one more.
+const MANY: usize = 9;
+
+// How many words there are, from the program's name on; no more than MANY are counted.
+pub fn words(rt: &impl Env) -> usize {
+    for i in 0..MANY {
+        let mut room: [u8; 0] = [];
+        if let Err(FillError::NotPresent) = rt.arg(i, &mut room) {
+            return i;
         }
-        i += 1;
     }
-    true
+    MANY
 }
 
 // The first word. One that does not fit `word` is none of ours.
-pub fn first_word() -> Job {
+pub fn first_word(rt: &impl Env) -> Job {
     let mut word: [u8; 8] = [0; 8];
-    let n = os::arg(1, &mut word);
-    if os::errno() != 0 {
-        return Job::Unknown;
+    match rt.arg(1, &mut word) {
+        Ok(n) => named(&word[..n]),
+        Err(_) => Job::Unknown,
     }
-    named(&word[..n])
 }
 
 fn named(word: &[u8]) -> Job {
@@ -75,13 +79,12 @@ fn named(word: &[u8]) -> Job {
 }
 
 // The float kind that word i names.
-pub fn kind(i: usize) -> KindWord {
+pub fn kind(rt: &impl Env, i: usize) -> KindWord {
     let mut word: [u8; 8] = [0; 8];
-    let n = os::arg(i, &mut word);
-    if os::errno() != 0 {
-        return KindWord::Wrong;
+    match rt.arg(i, &mut word) {
+        Ok(n) => kind_named(&word[..n]),
+        Err(_) => KindWord::Wrong,
     }
-    kind_named(&word[..n])
 }
 
 fn kind_named(word: &[u8]) -> KindWord {
@@ -95,36 +98,37 @@ fn kind_named(word: &[u8]) -> KindWord {
 }
 
 // Whether word i leaves the pairs to the library.
-pub fn says_auto(i: usize) -> bool {
+pub fn says_auto(rt: &impl Env, i: usize) -> bool {
     let mut word: [u8; 8] = [0; 8];
-    let n = os::arg(i, &mut word);
-    if os::errno() != 0 {
-        return false;
+    match rt.arg(i, &mut word) {
+        Ok(n) => same(&word[..n], b"auto"),
+        Err(_) => false,
     }
-    same(&word[..n], b"auto")
 }
 
 // The number from 0 to 255 that word i spells, so `%` cuts nothing off. Whether it is inside the page's limits is the library's to say.
-pub fn byte(i: usize) -> ByteWord {
+pub fn byte(rt: &impl Env, i: usize) -> ByteWord {
     let mut word: [u8; 8] = [0; 8];
-    let n = os::arg(i, &mut word);
-    if os::errno() != 0 {
-        return ByteWord::Wrong;
+    match rt.arg(i, &mut word) {
+        Ok(n) => byte_spelled(&word[..n]),
+        Err(_) => ByteWord::Wrong,
     }
-    match spelled(&word[..n], 255) {
+}
+
+fn byte_spelled(word: &[u8]) -> ByteWord {
+    match spelled(word, 255) {
         NumberWord::Is(number) => ByteWord::Is((number % 256) as u8),
         NumberWord::Wrong => ByteWord::Wrong,
     }
 }
 
 // The number of 64 bits that word i spells; the largest has 20 digits.
-pub fn number(i: usize) -> NumberWord {
+pub fn number(rt: &impl Env, i: usize) -> NumberWord {
     let mut word: [u8; 20] = [0; 20];
-    let n = os::arg(i, &mut word);
-    if os::errno() != 0 {
-        return NumberWord::Wrong;
+    match rt.arg(i, &mut word) {
+        Ok(n) => spelled(&word[..n], 0xFFFF_FFFF_FFFF_FFFF),
+        Err(_) => NumberWord::Wrong,
     }
-    spelled(&word[..n], 0xFFFF_FFFF_FFFF_FFFF)
 }
 
 // The number that the digits spell, if it is not above `most`.
@@ -135,9 +139,8 @@ fn spelled(word: &[u8], most: u64) -> NumberWord
         return NumberWord::Wrong;
     }
     let mut number: u64 = 0;
-    let mut i: usize = 0;
-    while i < word.len() {
-        let byte = word[i];
+    for byte in word {
+        let byte = *byte;
         if byte < b'0' {
             return NumberWord::Wrong;
         }
@@ -149,7 +152,6 @@ fn spelled(word: &[u8], most: u64) -> NumberWord
             return NumberWord::Wrong;
         }
         number = number * 10 + digit;
-        i += 1;
     }
     NumberWord::Is(number)
 }

@@ -12,14 +12,24 @@ mod show;
 mod write;
 
 use crate::args::{Job, first_word};
+use sentences::Output;
+use std::env::Env;
+use std::fs::Files;
+use std::io;
 
-fn main() {
-    match first_word() {
-        Job::Write => write::run(),
-        Job::Read => read::run(),
-        Job::Examine => examine::run(),
-        Job::Show => show::run(),
-        Job::Help => say::help(),
-        Job::Unknown => say::wrong(b"the first word is write, read, examine, show or help"),
+fn run(rt: &(impl Env + Files + Alloc), to: &mut Output) {
+    match first_word(rt) {
+        Job::Write => write::run(rt, to),
+        Job::Read => read::run(rt, to),
+        Job::Examine => examine::run(rt, to),
+        Job::Show => show::run(rt, to),
+        Job::Help => say::help(to),
+        Job::Unknown => say::wrong(to, b"the first word is write, read, examine, show or help"),
     }
+}
+
+fn main(rt: HostRuntime) -> io::Result<()> {
+    let mut to = Output::new(rt.stdout(), rt.stderr());
+    run(&rt, &mut to);
+    to.finish()
 }

@@ -1,7 +1,7 @@
 // `alp read KIND PAGE COLUMN`, and with NUMBER behind it one vector of the page alone.
 ghost use Rattle.std.specs.Prelude.{◌*◌, ◌≤◌, length};
 
-use crate::args::{KindWord, NumberWord, kind, number};
+use crate::args::{KindWord, NumberWord, kind, number, words};
 use crate::rooms::{column32, column64, page_file, values32, values64};
 use crate::say::{WHO, wrong};
 use checks::kind::Kind;
@@ -10,7 +10,9 @@ use columns::{bytes32, bytes64};
 use files::{load, save};
 use reader::{read32, read64};
 use rules::Answer;
-use sentences::{done, error, refusal};
+use sentences::{Output, done, error, refusal};
+use std::env::Env;
+use std::fs::Files;
 use vector_reader::{read_vector32, read_vector64};
 
 // What is read: the whole page, or one vector of it.
@@ -20,39 +22,45 @@ enum Asked {
     Vector(usize),
 }
 
-pub fn run() {
-    let words = os::arg_count();
+pub fn run(rt: &(impl Env + Files + Alloc), to: &mut Output) {
+    let words = words(rt);
     match words {
-        5 | 6 => read_words(words),
-        _ => wrong(b"read takes KIND, PAGE and COLUMN, and perhaps NUMBER"),
+        5 | 6 => read_words(rt, to, words),
+        _ => wrong(to, b"read takes KIND, PAGE and COLUMN, and perhaps NUMBER"),
     }
 }
 
-fn read_words(words: usize) {
-    match kind(2) {
-        KindWord::Wrong => wrong(b"KIND is 32 or 64"),
-        KindWord::Is(kind) => read_with(kind, words),
+fn read_words(rt: &(impl Env + Files + Alloc), to: &mut Output, words: usize) {
+    match kind(rt, 2) {
+        KindWord::Wrong => wrong(to, b"KIND is 32 or 64"),
+        KindWord::Is(kind) => read_with(rt, to, kind, words),
     }
 }
 
-fn read_with(kind: Kind, words: usize) {
+fn read_with(rt: &(impl Env + Files + Alloc), to: &mut Output, kind: Kind, words: usize) {
     if words == 5 {
-        read_file(kind, Asked::Page);
+        read_file(rt, to, kind, Asked::Page);
         return;
     }
-    match number(5) {
-        NumberWord::Wrong => wrong(b"NUMBER is a number from 0, below 2^64"),
-        NumberWord::Is(number) => read_file(kind, Asked::Vector(number as usize)),
+    match number(rt, 5) {
+        NumberWord::Wrong => wrong(to, b"NUMBER is a number from 0, below 2^64"),
+        NumberWord::Is(number) => read_file(rt, to, kind, Asked::Vector(number as usize)),
     }
 }
 
-fn read_file(kind: Kind, asked: Asked) {
+fn read_file(rt: &(impl Env + Files + Alloc), to: &mut Output, kind: Kind, asked: Asked) {
     let mut room = page_file();
-    read_in(kind, asked, &mut room);
+    read_in(rt, to, kind, asked, &mut room);
 }
 
-fn read_in(kind: Kind, asked: Asked, room: &mut [u8]) {
-    let loaded = load(&WHO, 3, room);
+fn read_in(
+    rt: &(impl Env + Files + Alloc),
+    to: &mut Output,
+    kind: Kind,
+    asked: Asked,
+    room: &mut [u8],
+) {
+    let loaded = load(rt, to, &WHO, 3, room);
     if loaded.failed {
         return;
     }
@@ -60,13 +68,16 @@ fn read_in(kind: Kind, asked: Asked, room: &mut [u8]) {
     // a full room may have left some of the file behind: that can't change what the whole page gets (rooms.rt), but a vector may lie there
     if n == room.len() {
         if one_vector(asked) {
-            error(b"alp: the file is longer than any page, so no vector of it is read\n");
+            error(
+                to,
+                b"alp: the file is longer than any page, so no vector of it is read\n",
+            );
             return;
         }
     }
     match kind {
-        Kind::Single => restore32(&room[0..n], asked),
-        Kind::Double => restore64(&room[0..n], asked),
+        Kind::Single => restore32(rt, to, &room[0..n], asked),
+        Kind::Double => restore64(rt, to, &room[0..n], asked),
     }
 }
 
@@ -77,16 +88,16 @@ fn one_vector(asked: Asked) -> bool {
     }
 }
 
-fn restore32(page: &[u8], asked: Asked) {
+fn restore32(rt: &(impl Env + Files + Alloc), to: &mut Output, page: &[u8], asked: Asked) {
     let mut values = values32();
     let mut column = column32();
-    restore_to32(page, asked, &mut values, &mut column);
+    restore_to32(rt, to, page, asked, &mut values, &mut column);
 }
 
-fn restore64(page: &[u8], asked: Asked) {
+fn restore64(rt: &(impl Env + Files + Alloc), to: &mut Output, page: &[u8], asked: Asked) {
     let mut values = values64();
     let mut column = column64();
-    restore_to64(page, asked, &mut values, &mut column);
+    restore_to64(rt, to, page, asked, &mut values, &mut column);
 }
 
 fn answer32(page: &[u8], asked: Asked, values: &mut [u32]) -> Answer {
@@ -104,34 +115,48 @@ fn answer64(page: &[u8], asked: Asked, values: &mut [u64]) -> Answer {
 }
 
 // Done's place is the count of values, so `least` cuts nothing off.
-fn restore_to32(page: &[u8], asked: Asked, values: &mut [u32], column: &mut [u8])
+fn restore_to32(
+    rt: &(impl Env + Files + Alloc),
+    to: &mut Output,
+    page: &[u8],
+    asked: Asked,
+    values: &mut [u32],
+    column: &mut [u8],
+)
     requires { (4 * length values.old ≤ length column.old) × (length values.old ≤ 16385) }
 {
     let answer = answer32(page, asked, values);
     if answer.number != 0 {
-        refusal(answer);
+        refusal(to, answer);
         return;
     }
     let n = least(answer.place as usize, values.len());
     bytes32(&values[0..n], column);
-    keep(answer, &column[0..4 * n]);
+    keep(rt, to, answer, &column[0..4 * n]);
 }
 
-fn restore_to64(page: &[u8], asked: Asked, values: &mut [u64], column: &mut [u8])
+fn restore_to64(
+    rt: &(impl Env + Files + Alloc),
+    to: &mut Output,
+    page: &[u8],
+    asked: Asked,
+    values: &mut [u64],
+    column: &mut [u8],
+)
     requires { (8 * length values.old ≤ length column.old) × (length values.old ≤ 16385) }
 {
     let answer = answer64(page, asked, values);
     if answer.number != 0 {
-        refusal(answer);
+        refusal(to, answer);
         return;
     }
     let n = least(answer.place as usize, values.len());
     bytes64(&values[0..n], column);
-    keep(answer, &column[0..8 * n]);
+    keep(rt, to, answer, &column[0..8 * n]);
 }
 
-fn keep(answer: Answer, column: &[u8]) {
-    if save(&WHO, 4, column) {
-        done(answer, b"read ", b"value");
+fn keep(rt: &(impl Env + Files + Alloc), to: &mut Output, answer: Answer, column: &[u8]) {
+    if save(rt, to, &WHO, 4, column) {
+        done(to, answer, b"read ", b"value");
     }
 }
