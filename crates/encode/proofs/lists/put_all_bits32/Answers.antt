@@ -23,9 +23,6 @@ loop-i-preserved c =
     let u = c.put_bits32-at in
     patterns_put binary32 (pair32 a.scale) a.values.now l.i l.out a.out.now l.at l.invariant c.loop-i-test.true (get_or a.values.now l.i 0) c.is_exception32-listed.result refl c.is_exception32-listed.ensures u.new.out u.result u.ensures.0 u.ensures.1
 
-pub shape_of-out : goal.shape_of-out
-shape_of-out c = c.loop-i.invariant.stream.same
-
 pub returns : goal.returns
 returns c =
     let a = c.args in

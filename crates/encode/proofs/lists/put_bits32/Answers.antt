@@ -11,12 +11,6 @@ store_u32-requires c =
     let n = added_long 4 a.at a.value a.out.now a.listed c.if-listed.true in
     omega (arith, n, c.requires)
 
-pub overflow_add-result : goal.overflow_add-result
-overflow_add-result c =
-    let a = c.args in
-    let n = added_long 4 a.at a.value a.out.now a.listed c.if-listed.true in
-    omega (arith, n, c.requires)
-
 pub returns-then-listed : goal.returns-then-listed
 returns-then-listed c =
     let a = c.args in

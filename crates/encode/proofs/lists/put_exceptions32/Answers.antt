@@ -1,7 +1,7 @@
 -- `lists::put_exceptions32` meets its contract. Assumes nothing.
 use lib.Ieee.{binary32}
 use Rattle.decimal.specs.Scale.{pair32}
-use Rattle.encode.proofs.Listed.{lists-none, lists-half, first-room, second_start, second_room, lists-put}
+use Rattle.encode.proofs.Listed.{lists-none, first-room, second_room, lists-put}
 use Rattle.encode.proofs.lists.put_exceptions32.Goals as goal
 
 pub returns-then-listed-eq0 : goal.returns-then-listed-eq0
@@ -10,31 +10,11 @@ returns-then-listed-eq0 c =
     let P = c.requires in
     lists-none binary32 (pair32 a.scale) a.values.now a.listed a.out.now P.2 P.3 c.if-listed-eq0.true
 
-pub slice_bounds-put_positions32-end : goal.slice_bounds-put_positions32-end
-slice_bounds-put_positions32-end c =
-    let a = c.args in
-    let P = c.requires in
-    lists-half binary32 (pair32 a.scale) a.values.now a.listed a.out.now P.2 P.3
-
 pub put_positions32-requires : goal.put_positions32-requires
 put_positions32-requires c =
     let a = c.args in
     let P = c.requires in
     (P.0, P.1, first-room binary32 (pair32 a.scale) a.values.now a.listed a.out.now P.2 P.3)
-
-pub slice_bounds-put_all_bits32-count : goal.slice_bounds-put_all_bits32-count
-slice_bounds-put_all_bits32-count c =
-    let a = c.args in
-    let P = c.requires in
-    let u = c.put_positions32 in
-    second_start binary32 (pair32 a.scale) a.values.now a.listed a.out.now P.2 P.3 u.new.out u.ensures
-
-pub slice_bounds-put_all_bits32-start : goal.slice_bounds-put_all_bits32-start
-slice_bounds-put_all_bits32-start c =
-    let a = c.args in
-    let P = c.requires in
-    let u = c.put_positions32 in
-    second_start binary32 (pair32 a.scale) a.values.now a.listed a.out.now P.2 P.3 u.new.out u.ensures
 
 pub put_all_bits32-requires : goal.put_all_bits32-requires
 put_all_bits32-requires c =

@@ -11,12 +11,6 @@ store_u16-requires c =
     let n = added_long 2 a.at a.position a.out.now a.listed c.if-listed.true in
     omega (arith, n, c.requires.0)
 
-pub overflow_add-result : goal.overflow_add-result
-overflow_add-result c =
-    let a = c.args in
-    let n = added_long 2 a.at a.position a.out.now a.listed c.if-listed.true in
-    omega (arith, n, c.requires.0)
-
 pub returns-then-listed : goal.returns-then-listed
 returns-then-listed c =
     let a = c.args in

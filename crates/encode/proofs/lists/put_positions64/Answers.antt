@@ -24,9 +24,6 @@ loop-i-preserved c =
     let u = c.put_position-at in
     positions-put binary64 (pair64 a.scale) a.values.now l.i l.out a.out.now l.at l.invariant c.loop-i-test.true c.is_exception64-listed.result c.is_exception64-listed.ensures u.new.out u.result u.ensures.0 u.ensures.1
 
-pub shape_of-out : goal.shape_of-out
-shape_of-out c = c.loop-i.invariant.stream.same
-
 pub returns : goal.returns
 returns c =
     let a = c.args in

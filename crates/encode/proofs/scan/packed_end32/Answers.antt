@@ -11,14 +11,5 @@ use Rattle.encode.proofs.scan.packed_end32.Goals.{After-width_of32-width}
 small : (c : After-width_of32-width) → c.args.seen.count * c.width_of32-width.result ≤ 2 ^ max_s * 32
 small c = mul-le-mul {n₁ = c.args.seen.count} {m₁ = c.width_of32-width.result} {n₂ = 2 ^ max_s} {m₂ = 32} c.requires.short c.width_of32-width.ensures.1
 
-pub overflow_mul-result : goal.overflow_mul-result
-overflow_mul-result c = omega (arith, small c)
-
-pub overflow_add-result : goal.overflow_add-result
-overflow_add-result c = omega (arith, small c)
-
-pub overflow_add-result-2 : goal.overflow_add-result-2
-overflow_add-result-2 c = omega (arith, small c)
-
 pub returns : goal.returns
 returns c = (ap (λ (w : ℕ). 9 + packed_size c.args.seen.count w) c.width_of32-width.ensures.0, omega (arith, small c))
