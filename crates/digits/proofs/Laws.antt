@@ -74,11 +74,11 @@ of_take b (d ∷ ds) (suc i) h =
     ∙ ap₂ (λ (x y : ℕ). x % b ^ i * b + y) (digits_div (of_digits b ds) (h zero)) (digits_mod (of_digits b ds) (h zero)))
 
 -- a digit of the number is the list's element, 0 past its end
-pub get_d_of : (b : ℕ) (ds : List ℕ) (i : ℕ) → Below b ds → get_or ds i 0 ≡ of_digits b ds / b ^ i % b
+pub get_or-of : (b : ℕ) (ds : List ℕ) (i : ℕ) → Below b ds → get_or ds i 0 ≡ of_digits b ds / b ^ i % b
 unfolding of_digits
-get_d_of b [] i h = sym (ap (λ (x : ℕ). x % b) (zero-div (b ^ i)) ∙ zero-mod b)
-get_d_of b (d ∷ ds) zero h = sym (ap (λ (x : ℕ). (of_digits b ds * b + d) / x % b) (pow-zero b) ∙ ap (λ (x : ℕ). x % b) (div-one (of_digits b ds * b + d)) ∙ digits_mod (of_digits b ds) (h zero))
-get_d_of b (d ∷ ds) (suc i) h = get_d_of b ds i (λ k. h (suc k)) ∙ ap (λ (x : ℕ). x % b) (sym (tail_div b d (of_digits b ds) i (h zero)))
+get_or-of b [] i h = sym (ap (λ (x : ℕ). x % b) (zero-div (b ^ i)) ∙ zero-mod b)
+get_or-of b (d ∷ ds) zero h = sym (ap (λ (x : ℕ). (of_digits b ds * b + d) / x % b) (pow-zero b) ∙ ap (λ (x : ℕ). x % b) (div-one (of_digits b ds * b + d)) ∙ digits_mod (of_digits b ds) (h zero))
+get_or-of b (d ∷ ds) (suc i) h = get_or-of b ds i (λ k. h (suc k)) ∙ ap (λ (x : ℕ). x % b) (sym (tail_div b d (of_digits b ds) i (h zero)))
 
 pub of_append : (b : ℕ) (xs ys : List ℕ) → of_digits b (xs ++ ys) ≡ of_digits b ys * b ^ length xs + of_digits b xs
 unfolding of_digits

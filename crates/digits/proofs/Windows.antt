@@ -12,7 +12,7 @@ use mathlib.Core.Logic.{◌⊎◌, inl, inr, ⊎_elim}
 use lib.ListN.{get_or, take, drop}
 use lib.Pow.{pow_pos, pow_mono, pow-lt, pow-add, shr-shr, field, mod-mod-pow, mod-pow-add, shr_mod, shr_lt, shl_lt}
 use Rattle.digits.specs.Digits.{of_digits, Below}
-use Rattle.digits.proofs.Laws.{of_drop, of_take, get_d_of, below_drop, pow_mul}
+use Rattle.digits.proofs.Laws.{of_drop, of_take, get_or-of, below_drop, pow_mul}
 
 -- the next field ends by the end of all
 pub next_le : (w i n : ℕ) → i < n → w * i + w ≤ n * w
@@ -43,7 +43,7 @@ inside n u r m h =
     ap (λ (x : ℕ). n % 2 ^ x / 2 ^ r % 2 ^ m) e ∙ ap (λ (x : ℕ). x % 2 ^ m) (field n (j + m) r) ∙ mod-mod-pow (n / 2 ^ r) j m
 
 pub byte_of : (s : List ℕ) (q : ℕ) → Below 256 s → get_or s q 0 ≡ of_digits 256 s / 2 ^ (8 * q) % 2 ^ 8
-byte_of s q h = get_d_of 256 s q h ∙ ap (λ (x : ℕ). of_digits 256 s / x % 256) (pow_mul 2 8 q)
+byte_of s q h = get_or-of 256 s q h ∙ ap (λ (x : ℕ). of_digits 256 s / x % 256) (pow_mul 2 8 q)
 
 -- a shorter mask after a longer one
 pub mod_low : (n w m : ℕ) → m ≤ w → n % 2 ^ w % 2 ^ m ≡ n % 2 ^ m
@@ -99,7 +99,7 @@ word-high N q r t hr et =
 -- a window inside element q of a list of digits of u bits
 pub window_of : (u : ℕ) (xs : List ℕ) (q r m : ℕ) → Below (2 ^ u) xs → r + m ≤ u → get_or xs q 0 / 2 ^ r % 2 ^ m ≡ of_digits (2 ^ u) xs / 2 ^ (u * q + r) % 2 ^ m
 window_of u xs q r m h l =
-    ap (λ (x : ℕ). x / 2 ^ r % 2 ^ m) (get_d_of (2 ^ u) xs q h ∙ ap (λ (x : ℕ). of_digits (2 ^ u) xs / x % 2 ^ u) (pow_mul 2 u q))
+    ap (λ (x : ℕ). x / 2 ^ r % 2 ^ m) (get_or-of (2 ^ u) xs q h ∙ ap (λ (x : ℕ). of_digits (2 ^ u) xs / x % 2 ^ u) (pow_mul 2 u q))
     ∙ inside (of_digits (2 ^ u) xs / 2 ^ (u * q)) u r m l
     ∙ ap (λ (x : ℕ). x % 2 ^ m) (shr-shr (of_digits (2 ^ u) xs) (u * q) r)
 

@@ -30,10 +30,10 @@ each_get P [] i d e h = absurd (not-suc-le-zero h)
 each_get P (x ∷ xs) zero d e h = e.0
 each_get P (x ∷ xs) (suc i) d e h = each_get P xs i d e.1 (le_of_suc-le-suc h)
 
-get_d_map : {A B : Type 0} (f : A → B) (l : List A) (i : ℕ) (d : A) (e : B) → i < length l → get_or (map f l) i e ≡ f (get_or l i d)
-get_d_map f [] i d e h = absurd (not-suc-le-zero h)
-get_d_map f (x ∷ l) zero d e h = refl
-get_d_map f (x ∷ l) (suc i) d e h = get_d_map f l i d e (le_of_suc-le-suc h)
+get_or-map : {A B : Type 0} (f : A → B) (l : List A) (i : ℕ) (d : A) (e : B) → i < length l → get_or (map f l) i e ≡ f (get_or l i d)
+get_or-map f [] i d e h = absurd (not-suc-le-zero h)
+get_or-map f (x ∷ l) zero d e h = refl
+get_or-map f (x ∷ l) (suc i) d e h = get_or-map f l i d e (le_of_suc-le-suc h)
 
 module _ (fmt : Format) (p : Pair) (vs : List ℕ) where
   abbrev ts : List (Option ℤ)
@@ -57,13 +57,13 @@ module _ (fmt : Format) (p : Pair) (vs : List ℕ) where
     number_at : get_or zs i (pos 0) ≡ or_else (the_stand_in ts) (tried fmt p (get_or vs i 0))
     number_at =
         let n : length ts ≡ length vs = length-map vs (tried fmt p) in
-        get_d_map (or_else (the_stand_in ts)) ts i none (pos 0) (omega (arith, n)) ∙ ap (or_else (the_stand_in ts)) (get_d_map (tried fmt p) vs i 0 none h)
+        get_or-map (or_else (the_stand_in ts)) ts i none (pos 0) (omega (arith, n)) ∙ ap (or_else (the_stand_in ts)) (get_or-map (tried fmt p) vs i 0 none h)
 
     field_at : get_or fs i 0 ≡ nat_abs (or_else (the_stand_in ts) (tried fmt p (get_or vs i 0)) -ℤ least zs)
     unfolding fields_of
     field_at =
         let n = length-filled fmt p vs in
-        get_d_map (λ (z : ℤ). nat_abs (z -ℤ least zs)) zs i (pos 0) 0 (omega (arith, n)) ∙ ap (λ (z : ℤ). nat_abs (z -ℤ least zs)) number_at
+        get_or-map (λ (z : ℤ). nat_abs (z -ℤ least zs)) zs i (pos 0) 0 (omega (arith, n)) ∙ ap (λ (z : ℤ). nat_abs (z -ℤ least zs)) number_at
 
     above_least : AtMost (least zs) (or_else (the_stand_in ts) (tried fmt p (get_or vs i 0)))
     above_least =
