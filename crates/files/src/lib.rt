@@ -212,7 +212,7 @@ fn save_path<R: Files + Alloc>(
                 path.as_bytes(),
                 why,
             );
-            fs::remove_file(rt, path).ok();
+            fs::remove_file(rt, path).ok(); // where that fails too, the complaint above is still the one to make
             false
         }
     }
