@@ -1,4 +1,5 @@
 -- `trial::at_least32` meets its contract. Assumes nothing.
+use borrow.Author.Rules.{rules}
 use mathlib.Core.Path.{ap₂, ◌∙◌}
 use native.Mathlib.Nat.{le_of_eq}
 use lib.IntN.{ℤ, pos}
@@ -11,7 +12,6 @@ use Rattle.chooser.proofs.trial.at_least32.Goals as goal
 pub returns : goal.returns
 returns c =
     let a = c.args in
-    let told = c.struct_told-1.given in
-    let lo = to_z-of_z w32 a.seen.smallest (record { sfits = told.1.1.1.0.1 }) in
-    let hi = to_z-of_z w32 a.seen.largest (record { sfits = told.1.1.1.1.0.1 }) in
+    let lo = to_z-of_z w32 a.seen.smallest (search rules) in
+    let hi = to_z-of_z w32 a.seen.largest (search rules) in
     le_of_eq (c.vector_size32.ensures ∙ ap₂ (λ (x y : ℤ). size_seen binary32 (record { count = a.n; listed = a.seen.listed; stand = pos 0; smallest = x; largest = y })) lo hi)

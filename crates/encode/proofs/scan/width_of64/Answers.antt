@@ -1,4 +1,5 @@
 -- `scan::width_of64` meets its contract. Assumes nothing.
+use borrow.Author.Rules.{rules}
 use mathlib.Core.Path.{ap, ap₂, ◌∙◌}
 use lib.IntN.{ℤ, nat_abs, ◌-ℤ◌}
 use lib.Ieee.{size}
@@ -9,6 +10,6 @@ use Rattle.encode.proofs.scan.width_of64.Goals as goal
 pub returns : goal.returns
 returns c =
     let s = c.args.seen in
-    let lo = to_z-of_z w64 s.smallest (record { sfits = c.struct_told-1.given.1.1.1.0.1 }) in
-    let hi = to_z-of_z w64 s.largest (record { sfits = c.struct_told-1.given.1.1.1.1.0.1 }) in
+    let lo = to_z-of_z w64 s.smallest (search rules) in
+    let hi = to_z-of_z w64 s.largest (search rules) in
     (c.width64.ensures.0 ∙ ap size (c.field64.ensures ∙ ap₂ (λ (x y : ℤ). nat_abs (x -ℤ y)) hi lo), c.width64.ensures.1)
