@@ -1,13 +1,13 @@
 // The arrays that files are read into and made from. Each comes from a function, so that a proof that cuts one knows its length alone, and
 // not its zeros.
 
-// A byte more than the longest page has. The first bytes of a longer file get the answer that all of it would get (`tool-reads-enough` and
+// A byte more than the longest page has. The first bytes of a longer file get the answer that all of it would get (`tool_reads_enough` and
 // its neighbours in theorems/proofs/Longer); one vector alone may lie behind them, so it is not read from a file that fills this.
 pub fn page_file() -> [u8; 329737] {
     [0; 329737]
 }
 
-// No page of the kind is longer (`no-page-is-longer`, `longest-32` and `longest-64` in theorems/proofs/Longer), so whatever measuring answers
+// No page of the kind is longer (`no_page_is_longer`, `longest_32` and `longest_64` in theorems/proofs/Longer), so whatever measuring answers
 // fits.
 pub fn page32() -> [u8; 190472] {
     [0; 190472]

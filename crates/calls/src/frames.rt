@@ -7,7 +7,7 @@ use std::io;
 use std::io::{Read, Stdin, Stdout, Write};
 
 // Where requests come from and answers go. The first read or write that fails is kept and nothing is read or written behind it, so no answer
-// stands for a request that did not come whole; `finish` gives that failure, and `main` ends with it.
+// stands for a request that a failed read cut short; `finish` gives that failure, and `main` ends with it.
 #[derive(Drop)]
 pub struct Wire {
     input: Stdin,

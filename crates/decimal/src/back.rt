@@ -12,7 +12,7 @@ use crate::signed::{of_word16, of_word32};
 use crate::tables::{Scale32, Scale64, two_products32, two_products64};
 
 // The float nearest to a word read as signed. The halves are floats exactly, and so is the upper one times 2^32: only the sum rounds.
-// There is no branch, so a loop over words can take several at once.
+// There is no branch, so nothing keeps a compiler from taking several words at once.
 fn nearest_float64(word: u64) -> f64
     ensures { result ≡ of_int binary64 (to_z w64 word) }
 {

@@ -3,14 +3,11 @@ use Rattle.checks.specs.Forms.{format_of}
 use Rattle.examiner.proofs.Turns.{answer-no, answer-done, has_header}
 use Rattle.examiner.proofs.examine.Goals as goal
 
--- src/lib.rt:70:13
 pub returns-in-No : goal.returns-in-No
 returns-in-No c = let a = c.args in answer-no (format_of a.kind) a.page.now c.examine_rows.result c.examine_rows.ensures _ c.in-No.is
 
--- src/lib.rt:74:17
 pub count_of-count-requires : goal.count_of-count-requires
 count_of-count-requires c = let a = c.args in has_header (format_of a.kind) a.page.now c.examine_rows.result c.examine_rows.ensures c.in-Fine.is
 
--- src/lib.rt:65:1
 pub returns : goal.returns
 returns c = let a = c.args in answer-done (format_of a.kind) a.page.now c.examine_rows.result c.examine_rows.ensures c.count_of-count.result c.in-Fine.is c.count_of-count.ensures.0

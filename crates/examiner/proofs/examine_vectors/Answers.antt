@@ -17,23 +17,18 @@ use Rattle.checks.proofs.Turns.{vectors-left, raws_left, vector-passed, vectors-
 use Rattle.examiner.proofs.Turns.{rules_turn, rules_end, rules_start}
 use Rattle.examiner.proofs.examine_vectors.Goals as goal
 
--- src/lib.rt:28:9
 pub s_of-s-requires : goal.s_of-s-requires
 s_of-s-requires c = (page_fine (format_of c.args.kind) c.args.page.now c.requires).0.eight
 
--- src/lib.rt:29:9
 pub size_of-size-requires : goal.size_of-size-requires
 size_of-size-requires c = omega (arith, (page_fine (format_of c.args.kind) c.args.page.now c.requires).0.high, c.s_of-s.ensures)
 
--- src/lib.rt:30:9
 pub vectors_in-many-requires : goal.vectors_in-many-requires
 vectors_in-many-requires c = page_header (format_of c.args.kind) c.args.page.now c.requires
 
--- src/lib.rt:33:9
 pub count_of-left-requires : goal.count_of-left-requires
 count_of-left-requires c = (page_fine (format_of c.args.kind) c.args.page.now c.requires).0.eight
 
--- src/lib.rt:34:5
 pub loop-v-init : goal.loop-v-init
 loop-v-init c =
     let a = c.args in
@@ -44,7 +39,6 @@ loop-v-init c =
     let many = c.vectors_in-many.ensures.0 in
     (omega (arith, room, many), vectors_passed_start fmt page c.size_of-size.result c.vectors_in-many.result c.count_of-left.result size many c.count_of-left.ensures.0 c.requires, rules_start fmt page c.size_of-size.result c.vectors_in-many.result c.count_of-left.result size many c.count_of-left.ensures.0)
 
--- src/lib.rt:38:15
 pub inspect_vector-requires : goal.inspect_vector-requires
 inspect_vector-requires c =
     let page-at : List ℕ = c.args.page.now in
@@ -58,7 +52,6 @@ inspect_vector-requires c =
     in
     (omega (arith, c.least-n.ensures, c.size_of-size.ensures.2), (layout _ refl).0)
 
--- src/lib.rt:40:17
 pub returns-in-No : goal.returns-in-No
 returns-in-No c =
     let page-at : List ℕ = c.args.page.now in
@@ -72,7 +65,6 @@ returns-in-No c =
     in
     stops c.inspect_vector.result _ c.inspect_vector.ensures _ _ c.in-No.is ∙ sym (turn _ refl)
 
--- src/lib.rt:44:13
 pub meta_at-m-requires : goal.meta_at-m-requires
 meta_at-m-requires c =
     let page-at : List ℕ = c.args.page.now in
@@ -86,7 +78,6 @@ meta_at-m-requires c =
     in
     (layout _ refl).0.room
 
--- src/lib.rt:45:9
 pub overflow_add-at : goal.overflow_add-at
 overflow_add-at c =
     let page-at : List ℕ = c.args.page.now in
@@ -108,7 +99,6 @@ overflow_add-at c =
     in
     omega (arith, inside)
 
--- src/lib.rt:34:5
 pub loop-v-preserved : goal.loop-v-preserved
 loop-v-preserved c =
     let page-at : List ℕ = c.args.page.now in
@@ -136,7 +126,6 @@ loop-v-preserved c =
     in
     (inside, (layout c.vector_size-at.result size_is).1, continues c.inspect_vector.result _ c.inspect_vector.ensures _ _ c.in-Fine.is (turn c.vector_size-at.result size_is))
 
--- src/lib.rt:24:1
 pub returns : goal.returns
 returns c =
     let l = c.loop-v in

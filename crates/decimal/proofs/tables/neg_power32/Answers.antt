@@ -3,8 +3,5 @@ use lib.Ieee.{binary32}
 use Rattle.decimal.proofs.Powers.{neg_power-at}
 use Rattle.decimal.proofs.tables.neg_power32.Goals as goal
 
--- TODO array-read-result : tie.Need-array-read-result
--- array-read-result c = search rules
-
 pub returns : goal.returns
 returns c = neg_power-at binary32 c.args.k c.requires

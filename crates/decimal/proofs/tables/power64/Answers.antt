@@ -3,8 +3,5 @@ use lib.Ieee.{binary64}
 use Rattle.decimal.proofs.Powers.{power_at}
 use Rattle.decimal.proofs.tables.power64.Goals as goal
 
--- TODO array-read-result : tie.Need-array-read-result
--- array-read-result c = search rules
-
 pub returns : goal.returns
 returns c = power_at binary64 c.args.k c.requires

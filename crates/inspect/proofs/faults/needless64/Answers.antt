@@ -6,29 +6,23 @@ use Rattle.decimal.specs.Turn.{as_try64}
 use Rattle.inspect.proofs.Conditions.{not_listed, is_needless, is_needed, value-is}
 use Rattle.inspect.proofs.faults.needless64.Goals as goal
 
--- src/faults.rt:52:9
 pub returns-then-not-listed : goal.returns-then-not-listed
 returns-then-not-listed c z = not_listed binary64 (pair64 c.args.k.scale) z c.args.listed _ c.if-not-listed.true
 
--- src/faults.rt:55:44
 pub overflow_mul-j : goal.overflow_mul-j
 overflow_mul-j c = omega (arith, c.requires.3 c.if-not-listed.false, c.requires.1)
 
--- src/faults.rt:55:33
 pub overflow_add-many : goal.overflow_add-many
 overflow_add-many c = omega (arith, c.requires.3 c.if-not-listed.false, c.requires.1)
 
--- src/faults.rt:55:9
 pub read_u64-value-requires : goal.read_u64-value-requires
 read_u64-value-requires c = omega (arith, c.requires.3 c.if-not-listed.false, c.requires.2)
 
--- src/faults.rt:47:1
 pub returns-in-Whole : goal.returns-in-Whole
 returns-in-Whole c z =
     let a = c.args in
     is_needless binary64 (pair64 a.k.scale) z a.listed _ c.if-not-listed.false c.read_u64-value.result (value-is 8 a.k.listed a.j a.lists.now c.read_u64-value.result _ (c.requires.3 c.if-not-listed.false) refl c.read_u64-value.ensures) _ (ap as_try64 (sym c.in-Whole.is) ∙ c.whole64.ensures)
 
--- src/faults.rt:47:1
 pub returns-in-Exception : goal.returns-in-Exception
 returns-in-Exception c z =
     let a = c.args in

@@ -6,17 +6,14 @@ use Rattle.decimal.specs.Turn.{as_try64}
 use Rattle.inspect.proofs.Conditions.{no_stray, stray_excepted, stray_other}
 use Rattle.inspect.proofs.faults.strays64.Goals as goal
 
--- src/faults.rt:38:9
 pub returns-then-listed : goal.returns-then-listed
 returns-then-listed c x = no_stray binary64 (pair64 c.args.scale) c.args.word c.args.listed x c.if-listed.true
 
--- src/faults.rt:33:1
 pub returns-in-Whole : goal.returns-in-Whole
 returns-in-Whole c x =
     let a = c.args in
     stray_other binary64 (pair64 a.scale) a.word a.listed x c.if-listed.false c.back64.result c.back64.ensures c.ranges.word.fits _ (ap as_try64 (sym c.in-Whole.is) ∙ c.whole64.ensures) c.to_word64.result c.to_word64.ensures
 
--- src/faults.rt:33:1
 pub returns-in-Exception : goal.returns-in-Exception
 returns-in-Exception c x =
     let a = c.args in

@@ -3,10 +3,8 @@ use Rattle.std.proofs.Common.{w32}
 use Rattle.inspect.proofs.Conditions.{not_filled, is_filled}
 use Rattle.inspect.proofs.faults.unfilled32.Goals as goal
 
--- src/faults.rt:67:9
 pub returns-then-not-listed : goal.returns-then-not-listed
 returns-then-not-listed c x = not_filled w32 c.args.stand_in c.args.word c.args.listed x c.if-not-listed.true
 
--- src/faults.rt:63:1
 pub returns : goal.returns
 returns c x = is_filled w32 c.args.stand_in c.args.word c.args.listed x c.if-not-listed.false c.ranges.word.fits c.ranges.stand_in.fits

@@ -7,19 +7,16 @@ use Rattle.inspect.specs.Seen.{seen32}
 use Rattle.inspect.proofs.Conditions.{no24_frame, no24_width, passes24}
 use Rattle.inspect.proofs.rows.check_frame32.Goals as goal
 
--- src/rows.rt:194:9
 pub returns-then-frame-smallest : goal.returns-then-frame-smallest
 returns-then-frame-smallest c lists =
     let a = c.args in
     c.refuses.ensures ∙ no24_frame binary32 a.k.number (seen32 a.k a.packed.now lists) c.smallest32-smallest.result c.smallest32-smallest.type_inv (c.smallest32-smallest.ensures lists) c.if-frame-smallest.true
 
--- src/rows.rt:198:23
 pub overflow_cast-field : goal.overflow_cast-field
 overflow_cast-field c =
     let a = c.args in
     omega (arith, c.largest-field.ensures, largest-fits a.k.width a.k.count 32 a.packed.now c.requires.narrow)
 
--- src/rows.rt:200:9
 pub returns-then-width-fewest : goal.returns-then-width-fewest
 unfolding fields
 returns-then-width-fewest c lists =
@@ -28,7 +25,6 @@ returns-then-width-fewest c lists =
     ∙ no24_width binary32 a.k.number (seen32 a.k a.packed.now lists) c.smallest32-smallest.result c.smallest32-smallest.type_inv (c.smallest32-smallest.ensures lists) c.if-frame-smallest.false
     c.wide-fewest.result (c.wide-fewest.ensures.0 ∙ c.width32.ensures.0 ∙ ap size c.largest-field.ensures) c.if-width-fewest.true
 
--- src/rows.rt:187:1
 pub returns : goal.returns
 unfolding fields
 returns c lists =

@@ -7,25 +7,21 @@ use Rattle.digits.proofs.Fields.{field_from}
 use Rattle.inspect.proofs.Scans.{greatest-next, greatest-end}
 use Rattle.inspect.proofs.rows.largest.Goals as goal
 
--- src/rows.rt:177:5
 pub loop-i-init : goal.loop-i-init
 loop-i-init c = (sym (mul-zero c.args.width), omega arith)
 
--- src/rows.rt:178:13
 pub window-field-requires : goal.window-field-requires
 window-field-requires c =
     let a = c.args in
     let l = c.loop-i in
     (omega arith, omega (arith, c.requires.2, start-room a.width l.i l.start l.invariant.0 a.count c.loop-i-test.true))
 
--- src/rows.rt:180:9
 pub overflow_add-start : goal.overflow_add-start
 overflow_add-start c =
     let a = c.args in
     let l = c.loop-i in
     omega (arith, start_fits a.width l.i l.start l.invariant.0 a.count c.loop-i-test.true (omega arith) (omega arith))
 
--- src/rows.rt:177:5
 pub loop-i-preserved : goal.loop-i-preserved
 loop-i-preserved c =
     let a = c.args in
@@ -34,7 +30,6 @@ loop-i-preserved c =
       greatest-next (unpack a.width a.count a.packed.now) l.i l.top c.window-field.result c.larger-top.result l.invariant.1 (field_from a.width a.count a.packed.now l.i l.start c.loop-i-test.true l.invariant.0 ∙ ap (λ (d : ℕ). d ∷ drop (l.i + 1) (unpack a.width a.count a.packed.now)) (sym c.window-field.ensures)) c.larger-top.ensures,
     )
 
--- src/rows.rt:170:1
 pub returns : goal.returns
 returns c =
     let a = c.args in

@@ -7,24 +7,20 @@ use Rattle.inspect.proofs.Steps.{whole_from}
 use Rattle.inspect.proofs.Scans.{least-next, least-end, fields-room, bits_fit}
 use Rattle.inspect.proofs.rows.smallest64.Goals as goal
 
--- src/rows.rt:154:5
 pub loop-i-init : goal.loop-i-init
 loop-i-init c = (sym (mul-zero c.args.k.width), c.first_word64-smallest.ensures)
 
--- src/rows.rt:155:13
 pub word_at64-word-requires : goal.word_at64-word-requires
 word_at64-word-requires c =
     let a = c.args in
     fields-room binary64 a.k.count (meta64 a.k) a.packed.now c.requires c.loop-i.i c.loop-i.start c.loop-i.invariant.0 c.loop-i-test.true
 
--- src/rows.rt:157:9
 pub overflow_add-start : goal.overflow_add-start
 overflow_add-start c =
     let a = c.args in
     let l = c.loop-i in
     omega (arith, bits_fit binary64 a.k.count (meta64 a.k) a.packed.now c.requires l.i l.start l.invariant.0 c.loop-i-test.true)
 
--- src/rows.rt:154:5
 pub loop-i-preserved : goal.loop-i-preserved
 loop-i-preserved c =
     let a = c.args in
@@ -36,7 +32,6 @@ loop-i-preserved c =
           (whole_from binary64 a.k.count (meta64 a.k) a.packed.now c.requires lists l.i c.loop-i-test.true l.start l.invariant.0 c.word_at64-word.result c.word_at64-word.ensures) c.smaller64-smallest.ensures,
     )
 
--- src/rows.rt:145:1
 pub returns : goal.returns
 returns c lists =
     let a = c.args in

@@ -7,31 +7,26 @@ use Rattle.inspect.proofs.Steps.{whole_from, some_whole}
 use Rattle.inspect.proofs.Scans.{seek_start, seek_end, seek_found, seek_next, seen_start, fields-room, bits_fit}
 use Rattle.inspect.proofs.rows.stand_in32.Goals as goal
 
--- src/rows.rt:96:5
 pub loop-i-init : goal.loop-i-init
 loop-i-init c =
     let a = c.args in
     (sym (mul-zero a.k.width), seek_start binary32 (seen32 a.k a.packed.now a.lists.now) (seen_start binary32 a.k.count (meta32 a.k) a.packed.now a.lists.now c.requires.1))
 
--- src/rows.rt:100:13
 pub is_next-requires : goal.is_next-requires
 is_next-requires c = omega (arith, c.requires.1.room)
 
--- src/rows.rt:101:19
 pub word_at32-requires : goal.word_at32-requires
 word_at32-requires c =
     let a = c.args in
     let l = c.loop-i in
     fields-room binary32 a.k.count (meta32 a.k) a.packed.now c.requires.0 l.i l.start l.invariant.0 c.if-count-i.false
 
--- src/rows.rt:103:9
 pub overflow_add-start : goal.overflow_add-start
 overflow_add-start c =
     let a = c.args in
     let l = c.loop-i in
     omega (arith, bits_fit binary32 a.k.count (meta32 a.k) a.packed.now c.requires.0 l.i l.start l.invariant.0 c.if-count-i.false)
 
--- src/rows.rt:96:5
 pub loop-i-preserved : goal.loop-i-preserved
 loop-i-preserved c =
     let a = c.args in
@@ -39,14 +34,12 @@ loop-i-preserved c =
     let l = c.loop-i in
     (start-next a.k.width l.i l.start l.invariant.0, seek_next binary32 r l.i l.invariant.1 c.if-count-i.false _ (some_whole binary32 r l.i c.if-count-i.false) c.is_next.result c.is_next.ensures c.if-not-is_next.false)
 
--- src/rows.rt:88:1
 pub returns-then-count-i : goal.returns-then-count-i
 returns-then-count-i c =
     let a = c.args in
     let l = c.loop-i in
     seek_end binary32 (seen32 a.k a.packed.now a.lists.now) l.i l.invariant.1 c.if-count-i.true
 
--- src/rows.rt:88:1
 pub returns-then-not-is_next : goal.returns-then-not-is_next
 returns-then-not-is_next c =
     let a = c.args in

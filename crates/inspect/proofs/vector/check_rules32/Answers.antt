@@ -4,7 +4,6 @@ use Rattle.rules.specs.Verdict.{first}
 use Rattle.rules.specs.Examine.{rules_rows}
 use Rattle.inspect.proofs.vector.check_rules32.Goals as goal
 
--- src/vector.rt:29:1
 pub returns : goal.returns
 unfolding rules_rows
 returns c =

@@ -16,18 +16,14 @@ Asks k n part = Passed (format_of k) n (meta_at (format_of k) part) part
 abbrev given : Kind → ℕ → ℕ → List ℕ → Verdict
 given k v n part = verdict (rules_rows (format_of k) v (raw_from (format_of k) n (meta_at (format_of k) part) (drop (meta_bytes (format_of k)) part)))
 
--- src/vector.rt:115:25
 pub inspect_vector32-requires : goal.inspect_vector32-requires
 inspect_vector32-requires c = let a = c.args in (c.requires.0, subst (λ (k : Kind). Asks k a.n a.part.now) c.in-Single.is c.requires.1)
 
--- src/vector.rt:116:25
 pub inspect_vector64-requires : goal.inspect_vector64-requires
 inspect_vector64-requires c = let a = c.args in (c.requires.0, subst (λ (k : Kind). Asks k a.n a.part.now) c.in-Double.is c.requires.1)
 
--- src/vector.rt:110:1
 pub returns-in-Single : goal.returns-in-Single
 returns-in-Single c = let a = c.args in c.inspect_vector32.ensures ∙ ap (λ (k : Kind). given k a.v a.n a.part.now) (sym c.in-Single.is)
 
--- src/vector.rt:110:1
 pub returns-in-Double : goal.returns-in-Double
 returns-in-Double c = let a = c.args in c.inspect_vector64.ensures ∙ ap (λ (k : Kind). given k a.v a.n a.part.now) (sym c.in-Double.is)

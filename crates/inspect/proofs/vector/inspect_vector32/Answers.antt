@@ -11,7 +11,6 @@ use Rattle.checks.specs.Forms.{as_meta}
 use Rattle.inspect.proofs.Parts.{packed_ends, pair-allowed, fields_laid, lists-laid, seen-is}
 use Rattle.inspect.proofs.vector.inspect_vector32.Goals as goal
 
--- src/vector.rt:49:18
 pub slice_bounds-packed-end : goal.slice_bounds-packed-end
 slice_bounds-packed-end c =
     let ends : c.meta_bytes-front.result + c.packed_size.result ≤ length c.args.part.now =
@@ -20,7 +19,6 @@ slice_bounds-packed-end c =
     in
     ends
 
--- src/vector.rt:50:17
 pub slice_bounds-lists-count : goal.slice_bounds-lists-count
 slice_bounds-lists-count c =
     let ends : c.meta_bytes-front.result + c.packed_size.result ≤ length c.args.part.now =
@@ -29,7 +27,6 @@ slice_bounds-lists-count c =
     in
     ends
 
--- src/vector.rt:50:17
 pub slice_bounds-lists-start : goal.slice_bounds-lists-start
 slice_bounds-lists-start c =
     let ends : c.meta_bytes-front.result + c.packed_size.result ≤ length c.args.part.now =
@@ -38,14 +35,12 @@ slice_bounds-lists-start c =
     in
     ends
 
--- src/vector.rt:51:9
 pub scale_of32-scale-requires : goal.scale_of32-scale-requires
 scale_of32-scale-requires c =
     let a = c.args in
     let m = c.meta_at-m in
     pair-allowed binary32 a.n (as_meta m.result) a.part.now m.ensures.meta_is c.requires.0 c.requires.1 _ _ c.meta_bytes-front.ensures.0 c.packed_size.ensures.0
 
--- src/vector.rt:60:5
 pub check_rules32-requires : goal.check_rules32-requires
 check_rules32-requires c =
     let known : Vector32 =
@@ -64,7 +59,6 @@ check_rules32-requires c =
       lists-laid binary32 a.n (meta32 known) a.part.now meta_is c.requires.0 c.requires.1 f.result s.result f.ensures.0 s.ensures.0,
     )
 
--- src/vector.rt:42:1
 pub returns : goal.returns
 returns c =
     let known : Vector32 =

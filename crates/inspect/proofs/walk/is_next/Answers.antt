@@ -2,10 +2,8 @@
 use Rattle.inspect.proofs.Steps.{next-is, none_next}
 use Rattle.inspect.proofs.walk.is_next.Goals as goal
 
--- src/walk.rt:39:9
 pub returns-then-j-listed : goal.returns-then-j-listed
 returns-then-j-listed c = next-is c.args.listed c.args.i c.args.j c.args.lists.now c.if-j-listed.true c.read_u16-p.ensures
 
--- src/walk.rt:33:1
 pub returns : goal.returns
 returns c = none_next c.args.listed c.args.i c.args.j c.args.lists.now c.if-j-listed.false

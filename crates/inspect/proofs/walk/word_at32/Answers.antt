@@ -4,6 +4,5 @@ use Rattle.digits.specs.Digits.{number}
 use Rattle.digits.proofs.Windows.{window_lt}
 use Rattle.inspect.proofs.walk.word_at32.Goals as goal
 
--- src/walk.rt:67:17
 pub overflow_cast-field : goal.overflow_cast-field
 overflow_cast-field c = let a = c.args in omega (arith, c.window-field.ensures, window_lt (number a.packed.now) a.start a.k.width 32 (omega arith))
