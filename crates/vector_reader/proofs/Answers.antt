@@ -10,7 +10,7 @@ use Rattle.digits.proofs.Lists.{lent, lent_is}
 use Rattle.rules.specs.Kind.{max_s, meta_bytes}
 use Rattle.rules.specs.Page.{meta_at}
 use Rattle.rules.specs.Verdict.{Verdict, fine, verdict, settle, done_with, answer, after}
-use Rattle.rules.specs.ReadVector.{values_in, span_of, part_from, number_rows, read_vector_rows, vector_values, read_vector_of}
+use Rattle.rules.specs.ReadVector.{Span, values_in, span_of, part_from, number_rows, read_vector_rows, vector_values, read_vector_of}
 use Rattle.rules.specs.Calls.{ReadVector}
 use Rattle.rules.specs.declared.Answer.{Answer}
 use Rattle.rules.proofs.Reading.{Passed}
@@ -38,6 +38,11 @@ pub record Ready (fmt : Format) (v : ℕ) (bs out : List ℕ) (from n : ℕ) : T
   pub passes : verdict (read_vector_rows fmt v (length out) bs) ≡ fine
   pub from_is : from ≡ (span_of bs v).from
   pub count-is : n ≡ values_in bs v
+
+-- so it is where the checks gave fine, by what the two offsets and the count promise
+pub ready_at : (fmt : Format) (v : ℕ) (bs out : List ℕ) (r : Check) {l : Span} {n : ℕ} → as_verdict r ≡ verdict (read_vector_rows fmt v (length out) bs) → r ≡ Fine
+    → l ≡ span_of bs v → n ≡ values_in bs v → Ready fmt v bs out l.from n
+ready_at fmt v bs out r e f at few = record { passes = check_fine r e f; from_is = ap (λ (x : Span). x.from) at; count-is = few }
 
 module _ {fmt : Format} {v : ℕ} {bs out : List ℕ} {from n : ℕ} (q : Ready fmt v bs out from n) where
   abbrev part : List ℕ

@@ -1,10 +1,8 @@
 -- `read_vector32` meets its contract: its ways out are those of `Answers`. Assumes nothing.
-use mathlib.Core.Path.{refl, ap}
+use mathlib.Core.Path.{refl}
 use native.Mathlib.Omega.{arith}
 use lib.Ieee.{binary32}
-use Rattle.rules.specs.ReadVector.{Span}
-use Rattle.checks.proofs.Refusals.{check_fine}
-use Rattle.vector_reader.proofs.Answers.{vector-refused, numbered, Ready, meta_room, start-inside, enough, lent_many, vector-readable, vector-done}
+use Rattle.vector_reader.proofs.Answers.{vector-refused, numbered, ready_at, meta_room, start-inside, enough, lent_many, vector-readable, vector-done}
 use Rattle.vector_reader.proofs.read_vector32.Goals as goal
 
 pub returns-in-No : goal.returns-in-No
@@ -18,77 +16,42 @@ values_in-n-requires c = let a = c.args in numbered binary32 a.number a.page.now
 
 pub slice_bounds-part-count : goal.slice_bounds-part-count
 slice_bounds-part-count c =
-    let ready : Ready binary32 c.args.number c.args.page.now c.args.out.now c.span_of-span.result.from c.values_in-n.result =
-    record {
-      passes = check_fine c.check_read.result c.check_read.ensures c.in-Fine.is;
-      from_is = ap (λ (l : Span). l.from) c.span_of-span.ensures.0;
-      count-is = c.values_in-n.ensures.0;
-    }
-    in
+    let a = c.args in
+    let ready = ready_at binary32 a.number a.page.now a.out.now c.check_read.result c.check_read.ensures c.in-Fine.is c.span_of-span.ensures.0 c.values_in-n.ensures.0 in
     omega (arith, start-inside ready)
 
 pub slice_bounds-part-start : goal.slice_bounds-part-start
 slice_bounds-part-start c =
-    let ready : Ready binary32 c.args.number c.args.page.now c.args.out.now c.span_of-span.result.from c.values_in-n.result =
-    record {
-      passes = check_fine c.check_read.result c.check_read.ensures c.in-Fine.is;
-      from_is = ap (λ (l : Span). l.from) c.span_of-span.ensures.0;
-      count-is = c.values_in-n.ensures.0;
-    }
-    in
+    let a = c.args in
+    let ready = ready_at binary32 a.number a.page.now a.out.now c.check_read.result c.check_read.ensures c.in-Fine.is c.span_of-span.ensures.0 c.values_in-n.ensures.0 in
     omega (arith, start-inside ready)
 
 pub meta_at-m-requires : goal.meta_at-m-requires
 meta_at-m-requires c =
-    let ready : Ready binary32 c.args.number c.args.page.now c.args.out.now c.span_of-span.result.from c.values_in-n.result =
-    record {
-      passes = check_fine c.check_read.result c.check_read.ensures c.in-Fine.is;
-      from_is = ap (λ (l : Span). l.from) c.span_of-span.ensures.0;
-      count-is = c.values_in-n.ensures.0;
-    }
-    in
+    let a = c.args in
+    let ready = ready_at binary32 a.number a.page.now a.out.now c.check_read.result c.check_read.ensures c.in-Fine.is c.span_of-span.ensures.0 c.values_in-n.ensures.0 in
     meta_room ready
 
 pub slice_bounds-read_vector32-end : goal.slice_bounds-read_vector32-end
 slice_bounds-read_vector32-end c =
-    let ready : Ready binary32 c.args.number c.args.page.now c.args.out.now c.span_of-span.result.from c.values_in-n.result =
-    record {
-      passes = check_fine c.check_read.result c.check_read.ensures c.in-Fine.is;
-      from_is = ap (λ (l : Span). l.from) c.span_of-span.ensures.0;
-      count-is = c.values_in-n.ensures.0;
-    }
-    in
+    let a = c.args in
+    let ready = ready_at binary32 a.number a.page.now a.out.now c.check_read.result c.check_read.ensures c.in-Fine.is c.span_of-span.ensures.0 c.values_in-n.ensures.0 in
     enough ready
 
 pub slice_bounds-read_vector32-end-2 : goal.slice_bounds-read_vector32-end-2
 slice_bounds-read_vector32-end-2 c =
-    let ready : Ready binary32 c.args.number c.args.page.now c.args.out.now c.span_of-span.result.from c.values_in-n.result =
-    record {
-      passes = check_fine c.check_read.result c.check_read.ensures c.in-Fine.is;
-      from_is = ap (λ (l : Span). l.from) c.span_of-span.ensures.0;
-      count-is = c.values_in-n.ensures.0;
-    }
-    in
+    let a = c.args in
+    let ready = ready_at binary32 a.number a.page.now a.out.now c.check_read.result c.check_read.ensures c.in-Fine.is c.span_of-span.ensures.0 c.values_in-n.ensures.0 in
     lent_many ready
 
 pub read_vector32-requires : goal.read_vector32-requires
 read_vector32-requires c =
-    let ready : Ready binary32 c.args.number c.args.page.now c.args.out.now c.span_of-span.result.from c.values_in-n.result =
-    record {
-      passes = check_fine c.check_read.result c.check_read.ensures c.in-Fine.is;
-      from_is = ap (λ (l : Span). l.from) c.span_of-span.ensures.0;
-      count-is = c.values_in-n.ensures.0;
-    }
-    in
+    let a = c.args in
+    let ready = ready_at binary32 a.number a.page.now a.out.now c.check_read.result c.check_read.ensures c.in-Fine.is c.span_of-span.ensures.0 c.values_in-n.ensures.0 in
     vector-readable ready c.meta_at-m.result c.meta_at-m.ensures c.values_in-n.ensures.1
 
 pub returns : goal.returns
 returns c =
-    let ready : Ready binary32 c.args.number c.args.page.now c.args.out.now c.span_of-span.result.from c.values_in-n.result =
-    record {
-      passes = check_fine c.check_read.result c.check_read.ensures c.in-Fine.is;
-      from_is = ap (λ (l : Span). l.from) c.span_of-span.ensures.0;
-      count-is = c.values_in-n.ensures.0;
-    }
-    in
+    let a = c.args in
+    let ready = ready_at binary32 a.number a.page.now a.out.now c.check_read.result c.check_read.ensures c.in-Fine.is c.span_of-span.ensures.0 c.values_in-n.ensures.0 in
     vector-done ready c.done.result _ _ c.done.ensures c.read_vector32.ensures refl
