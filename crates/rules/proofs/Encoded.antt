@@ -98,7 +98,7 @@ module _ (fmt : Format) (p : Pair) (turn : ℕ → Option ℤ) (comes : ComesBac
   least-held = least-one (Held fmt) zs (pow_pos (hbits (word fmt))) (turns-filled fmt p turn comes vs)
 
   -- a field fits the word
-  turned-below : Each (λ (n : ℕ). n < 2 ^ word_bits fmt) (fields_of zs)
+  pub turned-below : Each (λ (n : ℕ). n < 2 ^ word_bits fmt) (fields_of zs)
   unfolding fields_of
   turned-below =
       each_of_map (λ (n : ℕ). n < 2 ^ word_bits fmt) (λ (z : ℤ). nat_abs (z -ℤ least zs)) zs

@@ -15,3 +15,4 @@ pub mod Older
 pub mod Wrapped
 pub mod Recordings
 pub mod Edges
+pub mod Coded
