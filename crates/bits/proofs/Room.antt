@@ -11,6 +11,8 @@ use Rattle.digits.specs.Digits.{packed_size, unpack}
 use Rattle.digits.proofs.Laws.{length_to}
 use Rattle.digits.proofs.Fields.{few_bits}
 use Rattle.bits.specs.Room.{Room}
+use Rattle.bits.specs.Words.{WordLaws}
+use Rattle.bits.proofs.WordLists.{length-numbers, put_mid-numbers}
 
 -- by the division, the last of n fields starts no later than `reach` bytes before the end
 pub room_by : (reach w size n : ℕ) → 0 < w → reach ≤ size → n ≤ (8 * (size - reach) + 7) / w + 1 → Room reach w n size
@@ -22,7 +24,7 @@ room_by reach w size n pos fits most i h =
 pub start-most : (w n all : ℕ) → n ≤ all → all < 2 ^ 32 → w ≤ 64 → w * n < 2 ^ 64
 start-most w n all h few narrow = omega (arith, mul_comm w n, few_bits n w (omega arith) narrow)
 
-module _ (w : ℕ) (bs out : List ℕ) (n : ℕ) (few : length out < 2 ^ 32) (room : length out * w ≤ 8 * length bs) (within : n ≤ length out) where
+module _ {A : Type 0} {as-number : A → ℕ} {as-numbers : List A → List ℕ} (laws : WordLaws as-number as-numbers) (w : ℕ) (bs : List ℕ) (out : List A) (n : ℕ) (few : length out < 2 ^ 32) (room : length out * w ≤ 8 * length bs) (within : n ≤ length out) where
   long : length (take (n - 0) out) ≡ n
   long = length-take-le (n - 0) out (omega arith) ∙ omega arith
 
@@ -33,21 +35,25 @@ module _ (w : ℕ) (bs out : List ℕ) (n : ℕ) (few : length out < 2 ^ 32) (ro
   part_room reach r i h = omega (arith, r i (omega (arith, long)))
 
   -- the first n fields stand in the part that comes back
-  module _ (last : List ℕ) (e : last ≡ unpack w (length (take (n - 0) out)) bs) where
+  module _ (last : List A) (e : as-numbers last ≡ unpack w (length (take (n - 0) out)) bs) where
+    last-numbers : length (as-numbers last) ≡ n
+    last-numbers = ap length e ∙ length_to (2 ^ w) (length (take (n - 0) out)) _ ∙ long
+
     last_long : length last ≡ n
-    last_long = ap length e ∙ length_to (2 ^ w) (length (take (n - 0) out)) _ ∙ long
+    last_long = sym (length-numbers laws last) ∙ last-numbers
 
     pub whole_again : length (put_mid 0 (n - 0) out last) ≡ length out
     whole_again = same_len_mid 0 (n - 0) out last (last_long ∙ sym long)
 
-    pub behind-ready : (k : ℕ) → w ≤ k → let o = put_mid 0 (n - 0) out last in (w ≤ k) × (length o < 2 ^ 32) × (length o * w ≤ 8 * length bs) × (n ≤ length o) × (take n o ≡ unpack w n bs)
-    behind-ready k h = (
+    pub behind-ready : (k : ℕ) → w ≤ 64 → w ≤ k → let o = put_mid 0 (n - 0) out last in (w ≤ 64) × (w ≤ k) × (length o < 2 ^ 32) × (length o * w ≤ 8 * length bs) × (n ≤ length o) × (take n (as-numbers o) ≡ unpack w n bs)
+    behind-ready k narrow h = (
+      narrow,
       h,
       rw whole_again few,
       rw whole_again room,
       rw whole_again within,
-      take_at last (drop (n - 0) out) n last_long ∙ e ∙ ap (λ (m : ℕ). unpack w m bs) long,
+      ap (take n) (put_mid-numbers laws 0 (n - 0) out last) ∙ take_at (as-numbers last) (drop (n - 0) (as-numbers out)) n last-numbers ∙ e ∙ ap (λ (m : ℕ). unpack w m bs) long,
     )
 
-    pub all_fetched : (exit : List ℕ) → exit ≡ unpack w (length (put_mid 0 (n - 0) out last)) bs → exit ≡ unpack w (length out) bs
+    pub all_fetched : (exit : List A) → as-numbers exit ≡ unpack w (length (put_mid 0 (n - 0) out last)) bs → as-numbers exit ≡ unpack w (length out) bs
     all_fetched exit q = q ∙ ap (λ (m : ℕ). unpack w m bs) whole_again

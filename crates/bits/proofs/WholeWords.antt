@@ -2,11 +2,11 @@
 use mathlib.Core.Path.{◌≡◌, sym, ap, ◌∙◌}
 use mathlib.Core.List.{List}
 use Prim.Native.Nat.{ℕ, ◌+◌, ◌-◌, ◌*◌, ◌/◌, ◌%◌, ◌^◌, ◌≤◌, ◌<◌}
-use native.Mathlib.Nat.{div-add-mod, mod-lt, mul_assoc, mul_comm, add_comm}
+use native.Mathlib.Nat.{lt_of_lt_of_le, div-add-mod, mod-lt, mul_assoc, mul_comm, add_comm}
 use native.Mathlib.Omega.{arith}
 use lib.Bits.{bit_and, bit_or, and_mask, or_shifted_r}
 use lib.ListN.{get_or, take, drop}
-use lib.Pow.{pow_pos, pow-add, shr_lt}
+use lib.Pow.{pow_pos, pow_mono, pow-add, shr_lt}
 use Rattle.digits.specs.Digits.{number, Below}
 use Rattle.digits.proofs.Windows.{of_bytes, byte_of, mod_low, shl_mod, word_low, word-high}
 
@@ -44,10 +44,15 @@ module _ (bs : List ℕ) (start : ℕ) (bytes : Below 256 bs) where
       ∙ word-high (number bs) q skip t (omega arith) (byte_of bs (q + 8) bytes)
       ∙ ap (λ (x : ℕ). number bs / 2 ^ x % 2 ^ 64) (div-add-mod start 8)
 
--- a field of w bits kept by its mask, where at least k of the bits are right
-pub kept : (x N start k w : ℕ) → w ≤ k → x % 2 ^ k ≡ N / 2 ^ start % 2 ^ k → bit_and x (2 ^ w - 1) ≡ N / 2 ^ start % 2 ^ w
-kept x N start k w h e = and_mask x w ∙ sym (mod_low x k w h) ∙ ap (λ (y : ℕ). y % 2 ^ w) e ∙ mod_low (N / 2 ^ start) k w h
+-- what a mask of w ones keeps fits in w bits or more, whatever it is
+pub mask_lt : (x mask w k : ℕ) → mask ≡ 2 ^ w - 1 → w ≤ k → bit_and x mask < 2 ^ k
+mask_lt x mask w k m h = rw (ap (bit_and x) m ∙ and_mask x w) (lt_of_lt_of_le (mod-lt x (pow_pos w)) (pow_mono h))
 
--- and where all 64 are
-pub kept_whole : (x N start w : ℕ) → w ≤ 64 → x ≡ N / 2 ^ start % 2 ^ 64 → bit_and x (2 ^ w - 1) ≡ N / 2 ^ start % 2 ^ w
-kept_whole x N start w h e = and_mask x w ∙ ap (λ (y : ℕ). y % 2 ^ w) e ∙ mod_low (N / 2 ^ start) 64 w h
+module _ (x mask N start w : ℕ) (m : mask ≡ 2 ^ w - 1) where
+  -- a field of w bits kept by its mask, where at least k of the bits are right
+  pub kept : (k : ℕ) → w ≤ k → x % 2 ^ k ≡ N / 2 ^ start % 2 ^ k → bit_and x mask ≡ N / 2 ^ start % 2 ^ w
+  kept k h e = ap (bit_and x) m ∙ and_mask x w ∙ sym (mod_low x k w h) ∙ ap (λ (y : ℕ). y % 2 ^ w) e ∙ mod_low (N / 2 ^ start) k w h
+
+  -- and where all 64 are
+  pub kept_whole : w ≤ 64 → x ≡ N / 2 ^ start % 2 ^ 64 → bit_and x mask ≡ N / 2 ^ start % 2 ^ w
+  kept_whole h e = ap (bit_and x) m ∙ and_mask x w ∙ ap (λ (y : ℕ). y % 2 ^ w) e ∙ mod_low (N / 2 ^ start) 64 w h

@@ -8,11 +8,7 @@ ghost use Rattle.digits.specs.Digits.{number};
 pub fn clear(out: &mut [u8])
     ensures { out.new ≡ replicate (length out.old) 0 }
 {
-    let mut i: usize = 0;
-    while i < out.len() {
-        out[i] = 0;
-        i += 1;
-    }
+    out.fill(0);
 }
 
 // The number v from byte `at` on, where all is 0 from there on and there is room for it.
@@ -20,6 +16,7 @@ fn put_bytes(out: &mut [u8], at: usize, v: u64)
     requires { (number out.old < 256 ^ at) × (v * 256 ^ at < 256 ^ length out.old) }
     ensures { number out.new ≡ v * 256 ^ at + number out.old }
 {
+    // No `for`: it ends when nothing of v is left, and only the bytes themselves say when that is.
     let mut rest = v;
     let mut i = at;
     while 0 < rest {

@@ -1,10 +1,11 @@
 // Fields one after the other where whole words are there: the room is worked out once and the mask made once, so that each field is one
 // load, a shift and an `&`. Fields of width 0 have no bytes at all.
-ghost use Rattle.std.specs.Prelude.{◌≡◌, ℕ, ◌^◌, ◌≤◌, ◌<◌, length, replicate};
+ghost use Rattle.std.specs.Prelude.{◌≡◌, ℕ, ◌*◌, ◌^◌, ◌≤◌, ◌<◌, length, replicate};
 ghost use Rattle.digits.specs.Digits.{packed_size, unpack};
 ghost use Rattle.bits.specs.Above.{NoneAbove};
 ghost use Rattle.bits.specs.Room.{Room};
 
+use crate::word::Word;
 use crate::words::{eight_from, mask_of, nine_from};
 
 // How many of `count` fields, from the first on, have `reach` bytes from their first byte on inside the packed part.
@@ -17,50 +18,32 @@ pub fn roomy(count: usize, width: usize, reach: usize) -> usize
         return 0;
     }
     let most = (8 * (size - reach) + 7) / width + 1;
-    if most < count { most } else { count }
+    count.min(most)
 }
 
 // Fields of up to 57 bits, each from 8 bytes.
-pub fn eight_each32(packed: &[u8], width: usize, out: &mut [u32])
-    requires { (width ≤ 32) × (length out.old < 2 ^ 32) × Room 8 width (length out.old) (length packed.now) }
-    ensures { out.new ≡ unpack width (length out.old) packed.now }
+pub fn eight_each<W: Word>(packed: &[u8], width: usize, out: &mut [W])
+    requires { (width ≤ 57) × (width ≤ 8 * W.BYTES) × (length out.old < 2 ^ 32) × Room 8 width (length out.old) (length packed.now) }
+    ensures { W.as_numbers out.new ≡ unpack width (length out.old) packed.now }
 {
     let mask = mask_of(width);
-    let mut i: usize = 0;
     let mut start: usize = 0;
-    while i < out.len() {
-        out[i] = (eight_from(packed, start) & mask) as u32;
+    for place in out.iter_mut() {
+        *place = W::from_number(eight_from(packed, start) & mask);
         start += width;
-        i += 1;
     }
 }
 
-pub fn eight_each64(packed: &[u8], width: usize, out: &mut [u64])
-    requires { (width ≤ 57) × (length out.old < 2 ^ 32) × Room 8 width (length out.old) (length packed.now) }
-    ensures { out.new ≡ unpack width (length out.old) packed.now }
+// Fields of any width, each from 9 bytes. It stays apart from the one above: which of the two a width takes is asked once and not at each field.
+pub fn nine_each<W: Word>(packed: &[u8], width: usize, out: &mut [W])
+    requires { (width ≤ 64) × (width ≤ 8 * W.BYTES) × (length out.old < 2 ^ 32) × Room 9 width (length out.old) (length packed.now) }
+    ensures { W.as_numbers out.new ≡ unpack width (length out.old) packed.now }
 {
     let mask = mask_of(width);
-    let mut i: usize = 0;
     let mut start: usize = 0;
-    while i < out.len() {
-        out[i] = eight_from(packed, start) & mask;
+    for place in out.iter_mut() {
+        *place = W::from_number(nine_from(packed, start) & mask);
         start += width;
-        i += 1;
-    }
-}
-
-// Fields of any width, each from 9 bytes.
-pub fn nine_each64(packed: &[u8], width: usize, out: &mut [u64])
-    requires { (width ≤ 64) × (length out.old < 2 ^ 32) × Room 9 width (length out.old) (length packed.now) }
-    ensures { out.new ≡ unpack width (length out.old) packed.now }
-{
-    let mask = mask_of(width);
-    let mut i: usize = 0;
-    let mut start: usize = 0;
-    while i < out.len() {
-        out[i] = nine_from(packed, start) & mask;
-        start += width;
-        i += 1;
     }
 }
 
@@ -70,35 +53,22 @@ pub fn nine_below(packed: &[u8], width: usize, ready: usize, most: u64) -> usize
     ensures { (result ≤ ready) × ((n : ℕ) → ready ≤ n → NoneAbove width n packed.now most result) }
 {
     let mask = mask_of(width);
-    let mut i: usize = 0;
     let mut start: usize = 0;
-    while i < ready {
+    for i in 0..ready {
         if most < nine_from(packed, start) & mask {
             return i;
         }
         start += width;
-        i += 1;
     }
-    i
+    ready
 }
 
-// Every place becomes 0.
-pub fn zeros32(out: &mut [u32])
-    ensures { out.new ≡ replicate (length out.old) 0 }
+// Every place becomes 0. Not `fill`, which asks that a clone can't fail; `Copy` doesn't say so.
+pub fn zeros<W: Word>(out: &mut [W])
+    ensures { W.as_numbers out.new ≡ replicate (length out.old) 0 }
 {
-    let mut i: usize = 0;
-    while i < out.len() {
-        out[i] = 0;
-        i += 1;
-    }
-}
-
-pub fn zeros64(out: &mut [u64])
-    ensures { out.new ≡ replicate (length out.old) 0 }
-{
-    let mut i: usize = 0;
-    while i < out.len() {
-        out[i] = 0;
-        i += 1;
+    let zero = W::from_number(0);
+    for place in out.iter_mut() {
+        *place = zero;
     }
 }

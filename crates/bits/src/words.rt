@@ -3,7 +3,7 @@
 ghost use Rattle.std.specs.Prelude.{◌≡◌, ◌+◌, ◌-◌, ◌/◌, ◌%◌, ◌^◌, ◌≤◌, length, take, drop};
 ghost use Rattle.digits.specs.Digits.{number};
 
-use crate::numbers::read_u64;
+use crate::word::Word;
 
 // `width` ones: an `&` with them keeps a field of that width.
 pub fn mask_of(width: usize) -> u64
@@ -22,7 +22,7 @@ pub fn eight_from(bytes: &[u8], start: usize) -> u64
     requires { start / 8 + 8 ≤ length bytes.now }
     ensures { result % 2 ^ 57 ≡ number bytes.now / 2 ^ start % 2 ^ 57 }
 {
-    read_u64(bytes, start / 8) >> (start % 8)
+    u64::read(bytes, start / 8) >> (start % 8)
 }
 
 // The 64 bits from bit `start` on, where 9 bytes are there: the ninth goes above the word, by two shifts, since one by 64 is none.
@@ -32,7 +32,7 @@ pub fn nine_from(bytes: &[u8], start: usize) -> u64
 {
     let first = start / 8;
     let skip = start % 8;
-    let word = read_u64(bytes, first);
+    let word = u64::read(bytes, first);
     let ninth = bytes[first + 8] as u64;
     (word >> skip) | ((2 * ninth) << (63 - skip))
 }
@@ -43,14 +43,11 @@ pub fn word_at(bytes: &[u8], at: usize) -> u64
     ensures { result ≡ number (take 8 (drop at bytes.now)) }
 {
     if 8 <= bytes.len() - at {
-        return read_u64(bytes, at);
+        return u64::read(bytes, at);
     }
     let mut word: u64 = 0;
-    let mut i = bytes.len();
-    while at < i {
-        i -= 1;
-        let b = bytes[i] as u64;
-        word = word * 256 + b;
+    for byte in bytes[at..].iter().rev() {
+        word = word * 256 + (*byte as u64);
     }
     word
 }

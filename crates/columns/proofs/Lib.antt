@@ -1,2 +1,2 @@
 -- What the proofs of several functions share.
-pub mod Words
+pub mod Column

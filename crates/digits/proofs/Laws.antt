@@ -3,7 +3,6 @@ use mathlib.Core.Path.{◌≡◌, refl, sym, ap, ap₂, ◌∙◌}
 use mathlib.Core.List.{List, [], ◌∷◌, ◌++◌}
 use Prim.Native.Nat.{ℕ, zero, suc, ◌+◌, ◌-◌, ◌*◌, ◌/◌, ◌%◌, ◌^◌, ◌≤◌, ◌<◌, zero-le}
 use native.Mathlib.Nat.{le_of_suc-le-suc, not-suc-le-zero, mod-one, mod-lt, div-one, zero-div, zero-mod, pow-zero, pow-suc, pow-succ', div-div-eq-div-mul, one-le-pow, zero-add, add-zero, mul-one, mul-zero, mul_assoc, add_assoc, add-mul, mul-suc, lt_of_le_of_lt, lt_of_lt_of_le, zero-mul, suc-add, pow-le-pow_right}
-use native.Mathlib.Numerals.{add-one}
 use native.Mathlib.Omega.{arith}
 use lib.Arith.{digits_lt, digits_div, digits_mod, mod-mul}
 use lib.Dec.{lit<}
@@ -89,11 +88,6 @@ of_append b (x ∷ xs) ys =
     ∙ add_assoc (of_digits b ys * b ^ suc (length xs)) (of_digits b xs * b) x
 
 -- ---- parts of a list, and stores
-
--- the digits from j on, from those after it
-pub of_cons : (b : ℕ) (s : List ℕ) (j k : ℕ) → j < length s → k ≡ j + 1 → of_digits b (drop k s) * b + get_or s j 0 ≡ of_digits b (drop j s)
-unfolding of_digits
-of_cons b s j k h e = ap (λ (x : ℕ). of_digits b (drop x s) * b + get_or s j 0) (e ∙ add-one j) ∙ ap (of_digits b) (sym (drop-cons s j 0 h))
 
 pub below_drop : (b : ℕ) (s : List ℕ) (q : ℕ) → Below b s → Below b (drop q s)
 below_drop b s q h i = rw get_or-drop (h (q + i))

@@ -24,12 +24,8 @@ overflow_add-most-2 c =
     let a = c.args in
     omega (arith, few_bits a.count a.width (omega arith) (omega arith), div-le_self (8 * (packed_size a.count a.width - a.reach) + 7) a.width)
 
-pub returns-then-most-count : goal.returns-then-most-count
-returns-then-most-count c =
+pub returns : goal.returns
+returns c =
     let a = c.args in
-    (omega arith, room_by a.reach a.width (packed_size a.count a.width) _ (omega arith) (omega arith) (omega arith))
-
-pub returns-else-most-count : goal.returns-else-most-count
-returns-else-most-count c =
-    let a = c.args in
-    (omega arith, room_by a.reach a.width (packed_size a.count a.width) _ (omega arith) (omega arith) (omega arith))
+    let m = c.min.ensures in
+    (omega (arith, m), room_by a.reach a.width (packed_size a.count a.width) _ (omega arith) (omega arith) (omega (arith, m)))

@@ -1,11 +1,7 @@
 -- `windows::first_above` meets its contract: the loop goes on from the fields that are surely not above, and `Searching` says how far it has
 -- come. Assumes nothing.
-use Prim.Native.Nat.{◌-◌}
 use Rattle.bits.proofs.Above.{Searching}
 use Rattle.bits.proofs.windows.first_above.Given as goal
 
 abbrev pub invariant-loop-i : goal.invariant-loop-i
 invariant-loop-i l = Searching l.width l.count l.packed l.most l.i l.start
-
-abbrev pub decreases-loop-i : goal.decreases-loop-i
-decreases-loop-i l = l.count - l.i

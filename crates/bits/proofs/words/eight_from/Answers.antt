@@ -8,4 +8,4 @@ use Rattle.bits.proofs.words.eight_from.Goals as goal
 pub returns : goal.returns
 returns c =
     let a = c.args in
-    ap (λ (x : ℕ). x / 2 ^ (a.start % 8) % 2 ^ 57) c.read_u64.ensures ∙ word-window a.bytes.now a.start (λ i. (c.shared_slice_known-1.given i).fits) 57 (omega arith)
+    ap (λ (x : ℕ). x / 2 ^ (a.start % 8) % 2 ^ 57) c.read.ensures ∙ word-window a.bytes.now a.start (λ i. (c.shared_slice_known-1.given i).fits) 57 (omega arith)

@@ -17,5 +17,5 @@ pub returns : goal.returns
 returns c =
     let a = c.args in
     let skip = a.start % 8 in
-    ap (λ (x : ℕ). bit_or (x / 2 ^ skip) (2 * get_or a.bytes.now (a.start / 8 + 8) 0 * 2 ^ (63 - skip) % 2 ^ 64)) c.read_u64-word.ensures
+    ap (λ (x : ℕ). bit_or (x / 2 ^ skip) (2 * get_or a.bytes.now (a.start / 8 + 8) 0 * 2 ^ (63 - skip) % 2 ^ 64)) c.read-word.ensures
     ∙ nine_window a.bytes.now a.start (λ i. (c.shared_slice_known-2-1.given i).fits)

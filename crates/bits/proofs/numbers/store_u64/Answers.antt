@@ -1,9 +1,0 @@
--- `numbers::store_u64` meets its contract: the halves, put one behind the other, are the number's bytes. Assumes nothing.
-use native.Mathlib.Omega.{arith}
-use Rattle.digits.proofs.Rows.{put_parts}
-use Rattle.bits.proofs.numbers.store_u64.Goals as goal
-
-pub returns : goal.returns
-returns c =
-    let a = c.args in
-    cc (put_parts 4 4 a.v a.at a.out.now (omega arith))
