@@ -1,6 +1,6 @@
 -- The exception rule by the tests that the code makes on bit patterns: a NaN or an infinity by the exponent's field, a scaled or a rounded
 -- value beyond L by its own, and the bits that come back, which are not those of negative zero. Assumes nothing.
-use Rattle.std.proofs.Common.{◌≡◌, ℕ, zero, suc, ◌+◌, ◌-◌, ◌*◌, ◌/◌, ◌%◌, ◌^◌, ◌<◌, ◌≤◌, Bool, true, false, cond, not, ◌||◌, T, eqb, leb, ℤ, pos, sym, refl, ap, ◌∙◌, subst, zero-le, le_trans, le_of_lt, mul-pos, zero-mul, arith, lit<, SFits, to_z, of_z, le-ltb, eq-eqb, ne_eqb}
+use Rattle.std.proofs.Common.{◌≡◌, ℕ, zero, suc, ◌+◌, ◌-◌, ◌*◌, ◌/◌, ◌%◌, ◌^◌, ◌<◌, ◌≤◌, Bool, true, false, cond, not, ◌||◌, T, eqb, ltb, leb, ltb→lt, nltb→le, ℤ, pos, sym, refl, ap, ◌∙◌, subst, zero-le, le_trans, le_of_lt, mul-pos, zero-mul, arith, lit<, w64, SFits, to_z, of_z, le-ltb, eq-eqb, ne_eqb}
 use mathlib.Core.Bool.{false≢true}
 use mathlib.Core.Option.{none, some}
 use native.Mathlib.Nat.{zero-div}
@@ -12,7 +12,7 @@ use lib.Ieee.Back.{round_whole, whole_unique}
 use lib.Ieee.Scale.{round_same}
 use lib.Ieee.Positive.{num, den, den_pos, positive, own_value}
 use mir.ValLaws.{to_z-of_z}
-use Rattle.rules.specs.Kind.{word, max_exponent, rounding_constant}
+use Rattle.rules.specs.Kind.{word, word_bytes, max_exponent, rounding_constant}
 use Rattle.rules.specs.Decimal.{Pair, power, neg_power, scaled, rounded, truncated, whole, back, is_infinite, is_negative_zero, beyond, exception, tried}
 use Rattle.rules.specs.Write.{Allowed}
 use Rattle.rules.specs.Floats.{brought_back}
@@ -20,10 +20,25 @@ use Rattle.rules.proofs.Rows.{neither}
 use Rattle.rules.proofs.Tries.{tried-is, tried-none}
 use Rattle.rules.proofs.Powers.{power-positive, neg_power-positive, back-bits}
 use Rattle.decimal.proofs.Products.{like, product_of}
-use Rattle.decimal.proofs.Rounding.{cap, normal, beyond-bits}
-use Rattle.decimal.proofs.Words.{word_back}
+use Rattle.decimal.specs.Fields.{cap}
+use Rattle.decimal.proofs.Rounding.{normal, beyond-bits, truncated-held}
 
--- ---- tests joined by ||
+-- ---- tests
+
+-- a test of m < n that failed
+pub failed : (b : Bool) (m n : ℕ) → (m < n → b ≡ true) → b ≡ false → n ≤ m
+failed b m n h e = nltb→le m n (refused (ltb m n) (ltb→lt m n))
+  where
+    refused : (t : Bool) → (T t → m < n) → T (not t)
+    refused true k = absurd (false≢true (sym e ∙ h (k tt)))
+    refused false k = tt
+
+-- a word of the kind
+pub word_under : (fmt : Format) (n v : ℕ) → n ≡ word_bytes fmt → v < 2 ^ (8 * n) → v < 2 * top fmt
+word_under binary32 n v e h = let k : v < 2 ^ 32 = subst (λ (m : ℕ). v < 2 ^ (8 * m)) e h in omega (arith, k)
+word_under binary64 n v e h = let k : v < 2 ^ 64 = subst (λ (m : ℕ). v < 2 ^ (8 * m)) e h in omega (arith, k)
+
+-- joined by ||
 
 or_l : (a b : Bool) → a ≡ true → (a || b) ≡ true
 or_l a b e = cc
@@ -219,27 +234,31 @@ module _ (fmt : Format) (p : Pair) (v : ℕ) where
       by_rounded h = excepted (or_l (special || far || farther) differs (or_r (special || far) farther (ap (beyond fmt) (sym rounded-is) ∙ (beyond-bits fmt r).1 h)))
 
       -- past these tests, with the whole number z in hand and the bits c that it, as the word x, comes back as
-      module _ (z : ℤ) (held : SFits (word fmt) z) (cut : z ≡ truncated (of_bits fmt r)) (x c : ℕ) (as-word : x ≡ of_z (word fmt) (to_z (word fmt) (of_z (word fmt) z))) (came : c ≡ back fmt p (to_z (word fmt) x)) where
-        number_is : to_z (word fmt) (of_z (word fmt) z) ≡ whole fmt (scaled_of fmt p v)
+      module _ (near : r % top fmt / hid fmt < cap fmt) (z : ℤ) (wide : SFits w64 z) (cut : z ≡ truncated (of_bits fmt r)) where
+        pub number_held : SFits (word fmt) (to_z w64 (of_z w64 z))
+        number_held = subst (λ (y : ℤ). SFits (word fmt) y) (sym (to_z-of_z w64 z wide ∙ cut)) (truncated-held fmt r near)
+
+        number_is : to_z w64 (of_z w64 z) ≡ whole fmt (scaled_of fmt p v)
         unfolding whole
-        number_is = to_z-of_z (word fmt) z held ∙ cut ∙ ap truncated rounded-is
+        number_is = to_z-of_z w64 z wide ∙ cut ∙ ap truncated rounded-is
 
-        came_is : c ≡ back fmt p (whole fmt (scaled_of fmt p v))
-        came_is = came ∙ ap (back fmt p) (word_back (word fmt) z held x as-word ∙ number_is)
+        module _ (x c : ℕ) (as-word : x ≡ of_z (word fmt) (to_z w64 (of_z w64 z))) (came : c ≡ back fmt p (to_z (word fmt) x)) where
+          came_is : c ≡ back fmt p (whole fmt (scaled_of fmt p v))
+          came_is = came ∙ ap (back fmt p) (ap (to_z (word fmt)) as-word ∙ to_z-of_z (word fmt) (to_z w64 (of_z w64 z)) number_held ∙ number_is)
 
-        pub by_back : (c ≡ v → ⊥) → none ≡ tried fmt p v
-        unfolding differs
-        by_back h = excepted (or_r (special || far || farther) differs (ap not (ne_eqb (back fmt p (whole fmt (scaled_of fmt p v))) v (λ e. h (came_is ∙ e)))))
+          pub by_back : (c ≡ v → ⊥) → none ≡ tried fmt p v
+          unfolding differs
+          by_back h = excepted (or_r (special || far || farther) differs (ap not (ne_eqb (back fmt p (whole fmt (scaled_of fmt p v))) v (λ e. h (came_is ∙ e)))))
 
-        pub kept : Allowed fmt p → v < 2 * top fmt → v % top fmt < ones fmt * hid fmt → b % top fmt / hid fmt < cap fmt → r % top fmt / hid fmt < cap fmt → c ≡ v → some (to_z (word fmt) (of_z (word fmt) z)) ≡ tried fmt p v
-        unfolding special far farther differs
-        kept inside fits low under near h =
-            let comes : back fmt p (whole fmt (scaled_of fmt p v)) ≡ v = sym came_is ∙ h in
-            let other : v ≡ top fmt → ⊥ = λ e. zero_lost fmt p inside (ap (λ (n : ℕ). back fmt p (whole fmt (scaled_of fmt p n))) (sym e) ∙ comes ∙ e) in
-            let plain : special ≡ false = neither (not_finite (of_bits fmt v)) (is_negative_zero (of_bits fmt v)) (small fmt v low) (zero_only fmt v fits other) in
-            let inner : far ≡ false = ap (beyond fmt) (sym is) ∙ (beyond-bits fmt b).0 under in
-            let outer : farther ≡ false = ap (beyond fmt) (sym rounded-is) ∙ (beyond-bits fmt r).0 near in
-            let same : differs ≡ false = ap not (eq-eqb (back fmt p (whole fmt (scaled_of fmt p v))) v comes) in
-            let e : exception fmt p v ≡ false =
-            exception-is ∙ neither (special || far || farther) differs (neither (special || far) farther (neither special far plain inner) outer) same in
-            ap some number_is ∙ sym (tried-is fmt p v e)
+          pub kept : Allowed fmt p → v < 2 * top fmt → v % top fmt < ones fmt * hid fmt → b % top fmt / hid fmt < cap fmt → c ≡ v → some (to_z w64 (of_z w64 z)) ≡ tried fmt p v
+          unfolding special far farther differs
+          kept inside fits low under h =
+              let comes : back fmt p (whole fmt (scaled_of fmt p v)) ≡ v = sym came_is ∙ h in
+              let other : v ≡ top fmt → ⊥ = λ e. zero_lost fmt p inside (ap (λ (n : ℕ). back fmt p (whole fmt (scaled_of fmt p n))) (sym e) ∙ comes ∙ e) in
+              let plain : special ≡ false = neither (not_finite (of_bits fmt v)) (is_negative_zero (of_bits fmt v)) (small fmt v low) (zero_only fmt v fits other) in
+              let inner : far ≡ false = ap (beyond fmt) (sym is) ∙ (beyond-bits fmt b).0 under in
+              let outer : farther ≡ false = ap (beyond fmt) (sym rounded-is) ∙ (beyond-bits fmt r).0 near in
+              let same : differs ≡ false = ap not (eq-eqb (back fmt p (whole fmt (scaled_of fmt p v))) v comes) in
+              let e : exception fmt p v ≡ false =
+              exception-is ∙ neither (special || far || farther) differs (neither (special || far) farther (neither special far plain inner) outer) same in
+              ap some number_is ∙ sym (tried-is fmt p v e)

@@ -4,5 +4,4 @@ pub mod Powers
 pub mod Halves
 pub mod Rounding
 pub mod Exceptions
-pub mod Words
 pub mod Turns

@@ -1,6 +1,6 @@
 -- The tables of powers by their bits: one computed test says of each entry that it is the power. And floats that are a pair's powers take a
 -- value to its scaled value and a whole number back, and never to a NaN. Assumes nothing.
-use Rattle.std.proofs.Common.{◌≡◌, ℕ, zero, suc, ◌^◌, ◌<◌, ◌≤◌, Bool, false, not, T, eqb, List, [], ◌∷◌, map, length, get_or, ℤ, sym, refl, ap, ◌∙◌, subst, le_of_suc-le-suc, not-suc-le-zero, arith, eqb→eq}
+use Rattle.std.proofs.Common.{◌≡◌, ℕ, zero, suc, ◌^◌, ◌<◌, ◌≤◌, Bool, false, T, eqb, List, [], ◌∷◌, map, length, get_or, ℤ, refl, ap, ◌∙◌, le_of_suc-le-suc, not-suc-le-zero, arith, eqb→eq}
 use lib.Ieee.{Float, nan, Format, binary32, binary64, round, mul, of_int, of_bits, to_bits, fits, is_nan, nan_bits}
 use lib.Ieee.Fits.{round-fits}
 use lib.Ieee.Bits.{of_bits-to_bits}
@@ -79,25 +79,18 @@ neg_power-at fmt k h = entry fmt (neg_power fmt) (neg_powers fmt) (neg_power-fit
 
 -- ---- with a pair's powers
 
--- a float that is no NaN, as the machine asks it of one whose bits are taken
-abbrev Real : Float → Type 0
-Real x = T (not (is_nan x))
-
-real : (x y : Float) → x ≡ y → is_nan y ≡ false → Real x
-real x y e h = subst (λ (b : Bool). T (not b)) (sym (ap is_nan e ∙ h)) tt
-
 -- what the code computes, r, by the two products of its callee
 module _ {fmt : Format} {p : Pair} {a b c d : Float} (s : Scales fmt p a b c d) where
-  module _ (v : ℕ) {r : Float} (q : r ≡ mul fmt (mul fmt (of_bits fmt v) a) b) where
+  module _ (v : ℕ) {x r : Float} (e : x ≡ of_bits fmt v) (q : r ≡ mul fmt (mul fmt x a) b) where
     scaled-same : r ≡ scaled fmt p (of_bits fmt v)
     unfolding scaled
-    scaled-same = q ∙ two_products fmt refl s.up_exponent s.down_factor
+    scaled-same = q ∙ two_products fmt e s.up_exponent s.down_factor
 
     pub scaled-is : to_bits fmt r ≡ to_bits fmt (scaled fmt p (of_bits fmt v))
     scaled-is = ap (to_bits fmt) scaled-same
 
-    pub scaled-real : nan_bits fmt v ≡ false → Real r
-    scaled-real h = real r (scaled fmt p (of_bits fmt v)) scaled-same (scaled_bits_no_nan fmt p s.allowed v h)
+    pub scaled-real : nan_bits fmt v ≡ false → is_nan r ≡ false
+    scaled-real h = ap is_nan scaled-same ∙ scaled_bits_no_nan fmt p s.allowed v h
 
   module _ (z : ℤ) {x r : Float} (e : x ≡ of_int fmt z) (q : r ≡ mul fmt (mul fmt x c) d) where
     back-same : r ≡ brought_back fmt p z
@@ -107,5 +100,5 @@ module _ {fmt : Format} {p : Pair} {a b c d : Float} (s : Scales fmt p a b c d) 
     unfolding back
     back_is = ap (to_bits fmt) back-same
 
-    pub back-real : Real r
-    back-real = real r (brought_back fmt p z) back-same (back_no_nan fmt p s.allowed z)
+    pub back-real : is_nan r ≡ false
+    back-real = ap is_nan back-same ∙ back_no_nan fmt p s.allowed z

@@ -1,26 +1,25 @@
 -- Which bit patterns are beyond L, by the pattern's fields; and what rounding and dropping the fraction make of those that are not.
 -- Assumes nothing.
-use Rattle.std.proofs.Common.{◌≡◌, ℕ, zero, suc, ◌+◌, ◌-◌, ◌*◌, ◌/◌, ◌%◌, ◌^◌, ◌<◌, ◌≤◌, Bool, true, false, cond, not, ◌&&◌, T, eqb, ltb, leb, ℤ, pos, ◌-ℤ◌, neg_ℤ, sym, refl, ap, ◌∙◌, subst, zero-le, le_trans, lt_of_lt_of_le, lt_of_le_of_lt, lt_irrefl, mod-lt, mul_assoc, mul_comm, mul-le-mul, mul-one, mul_right_comm, div-one, mul-div_cancel, mul_left_comm, arith, lit<, lit≤, pow_pos, pow_mono, pow-add, SFits, to_z, of_z, ne_eqb, le-leb}
+use Rattle.std.proofs.Common.{◌≡◌, ℕ, zero, suc, ◌+◌, ◌-◌, ◌*◌, ◌/◌, ◌%◌, ◌^◌, ◌<◌, ◌≤◌, Bool, true, false, cond, not, ◌&&◌, T, eqb, ltb, leb, ℤ, pos, ◌-ℤ◌, neg_ℤ, sym, refl, ap, ◌∙◌, subst, zero-le, le_trans, lt_trans, lt-suc_self, lt_of_lt_of_le, lt_of_le_of_lt, lt_irrefl, mod-lt, mul_assoc, mul_comm, mul-le-mul, mul-one, mul_right_comm, div-one, mul-div_cancel, mul_left_comm, arith, lit<, lit≤, pow_pos, pow_mono, pow-add, w64, SFits, to_z, of_z, ne_eqb, le-leb}
 use mathlib.Core.Bool.{beq}
 use native.Mathlib.Nat.{div-eq_of_lt, pow-succ'}
-use lib.Ieee.{Float, nan, inf, fin, Format, binary32, binary64, prec, emax, low, hid, ones, top, up, down, odd, round, sum, add, sub, neg, is_nan, nan_bits, of_int, of_fields, of_bits, to_bits}
+use lib.Ieee.{Float, nan, inf, fin, Format, binary32, binary64, prec, low, hid, ones, top, up, down, odd, round, sum, add, sub, neg, is_nan, nan_bits, of_int, of_fields, of_bits, to_bits}
 use lib.Ieee.Exact.{HasValue, odd_sign}
 use lib.Ieee.Bits.{nan_bits_is}
 use lib.Ieee.Nearest.{div_mono, div_same}
 use borrow.Author.Tests.{lt-leb}
+use lib.IntN.{+ℤ_idl}
+use lib.Signed.{mag}
+use mir.Syntax.{Width}
 use mir.Val.{hbits}
-use mir.ValLaws.{to_z_pos}
+use mir.ValLaws.{to_z-of_z, to_z_pos}
+use Rattle.decimal.specs.Fields.{cap}
 use Rattle.rules.specs.Kind.{word, max_scaled, rounding_constant}
 use Rattle.rules.specs.Decimal.{signed, rounded, truncated, beyond}
 use Rattle.rules.proofs.Powers.{NoNan, round_real}
 use Rattle.rules.proofs.Tries.{max-held, beyond-val, constant_is, truncated-val}
-use Rattle.decimal.proofs.Words.{minus_fits, minus_back}
 
 -- ---- fields
--- the exponent's field from which on a value is beyond L: 158, 1086
-abbrev pub cap : Format → ℕ
-cap fmt = emax fmt + hbits (word fmt)
-
 pub normal : (fmt : Format) (s : Bool) (x t : ℕ) → suc x < ones fmt → of_fields fmt s (suc x) t ≡ odd (prec fmt) s (hid fmt + t) x (low fmt)
 unfolding of_fields
 normal fmt s x t h =
@@ -209,24 +208,55 @@ truncated-bits : (fmt : Format) (b : ℕ) → b % top fmt / hid fmt < cap fmt �
 unfolding of_bits
 truncated-bits fmt b h = truncated-fields fmt (leb (top fmt) b) (b % top fmt / hid fmt) (b % hid fmt) (within fmt (b % top fmt / hid fmt) h) (mod-lt b (pow_pos (prec fmt - 1)))
 
--- what the code computes, n, as the magnitude of the value with the bits b: n is a signed number of the kind's word, and so is 0 less n;
--- with the sign it is the value without its fraction
+-- of a magnitude in range
+module _ (w : Width) (n : ℕ) (h : n < 2 ^ hbits w) where
+  minus_is : pos 0 -ℤ to_z w n ≡ neg_ℤ (pos n)
+  minus_is = ap (λ (z : ℤ). pos 0 -ℤ z) (to_z_pos w n h) ∙ +ℤ_idl (neg_ℤ (pos n))
+
+  mag_neg : (n c : ℕ) → n < c → mag (neg_ℤ (pos n)) < c
+  mag_neg zero c h = h
+  mag_neg (suc n) c h = lt_trans (lt-suc_self n) h
+
+  minus_fits : SFits w (pos 0 -ℤ to_z w n)
+  minus_fits = record { sfits = subst (λ (z : ℤ). mag z < 2 ^ hbits w) (sym minus_is) (mag_neg n (2 ^ hbits w) h) }
+
+  signed_fits : (s : Bool) → SFits w (signed s n)
+  signed_fits true = record { sfits = mag_neg n (2 ^ hbits w) h }
+  signed_fits false = record { sfits = h }
+
+  minus_back : to_z w (of_z w (pos 0 -ℤ to_z w n)) ≡ neg_ℤ (pos n)
+  minus_back = to_z-of_z w (pos 0 -ℤ to_z w n) minus_fits ∙ minus_is
+
+-- the whole number fits the kind's word
+held : (fmt : Format) (b : ℕ) → b % top fmt / hid fmt < cap fmt → cut fmt (b % top fmt / hid fmt) (b % hid fmt) < 2 ^ hbits (word fmt)
+held fmt b h = lt_of_le_of_lt (cut_under fmt (b % top fmt / hid fmt) (b % hid fmt) h (mod-lt b (pow_pos (prec fmt - 1)))) (max-held fmt)
+
+pub truncated-held : (fmt : Format) (b : ℕ) → b % top fmt / hid fmt < cap fmt → SFits (word fmt) (truncated (of_bits fmt b))
+truncated-held fmt b h =
+    subst (λ (z : ℤ). SFits (word fmt) z) (sym (truncated-bits fmt b h))
+    (signed_fits (word fmt) (cut fmt (b % top fmt / hid fmt) (b % hid fmt)) (held fmt b h) (leb (top fmt) b))
+
+wide : (fmt : Format) → 2 ^ hbits (word fmt) ≤ 2 ^ hbits w64
+wide binary32 = lit≤ tt
+wide binary64 = lit≤ tt
+
+-- what the code computes, n, as the magnitude of the value with the bits b: n is a signed number of 64 bits, and so is 0 less n; with the
+-- sign it is the value without its fraction
 pub record Cut (fmt : Format) (b n : ℕ) : Type 0 where
-  pub fits : SFits (word fmt) (pos n)
-  pub minus : SFits (word fmt) (pos 0 -ℤ to_z (word fmt) n)
-  pub plus : b < top fmt → to_z (word fmt) n ≡ truncated (of_bits fmt b)
-  pub less : top fmt ≤ b → to_z (word fmt) (of_z (word fmt) (pos 0 -ℤ to_z (word fmt) n)) ≡ truncated (of_bits fmt b)
+  pub fits : SFits w64 (pos n)
+  pub minus : SFits w64 (pos 0 -ℤ to_z w64 n)
+  pub plus : b < top fmt → to_z w64 n ≡ truncated (of_bits fmt b)
+  pub less : top fmt ≤ b → to_z w64 (of_z w64 (pos 0 -ℤ to_z w64 n)) ≡ truncated (of_bits fmt b)
 
 pub cut_is : (fmt : Format) (b n : ℕ) → b % top fmt / hid fmt < cap fmt → n ≡ (hid fmt + b % hid fmt) * 2 ^ (b % top fmt / hid fmt) / 2 ^ suc (low fmt) → Cut fmt b n
 cut_is fmt b n h e =
     let c = cut fmt (b % top fmt / hid fmt) (b % hid fmt) in
-    let most : c ≤ max_scaled fmt = cut_under fmt (b % top fmt / hid fmt) (b % hid fmt) h (mod-lt b (pow_pos (prec fmt - 1))) in
-    let l : n < 2 ^ hbits (word fmt) = lt_of_le_of_lt (subst (λ (y : ℕ). y ≤ max_scaled fmt) (sym e) most) (max-held fmt) in
+    let l : n < 2 ^ hbits w64 = lt_of_lt_of_le (subst (λ (y : ℕ). y < 2 ^ hbits (word fmt)) (sym e) (held fmt b h)) (wide fmt) in
     record {
       fits = record { sfits = l };
-      minus = minus_fits (word fmt) n l;
-      plus = (λ k. to_z_pos (word fmt) n l ∙ ap pos e ∙ ap (λ (s : Bool). signed s c) (sym (lt-leb (top fmt) b k)) ∙ sym (truncated-bits fmt b h));
-      less = (λ k. minus_back (word fmt) n l ∙ ap (λ (y : ℕ). neg_ℤ (pos y)) e ∙ ap (λ (s : Bool). signed s c) (sym (le-leb (top fmt) b k)) ∙ sym (truncated-bits fmt b h));
+      minus = minus_fits w64 n l;
+      plus = (λ k. to_z_pos w64 n l ∙ ap pos e ∙ ap (λ (s : Bool). signed s c) (sym (lt-leb (top fmt) b k)) ∙ sym (truncated-bits fmt b h));
+      less = (λ k. minus_back w64 n l ∙ ap (λ (y : ℕ). neg_ℤ (pos y)) e ∙ ap (λ (s : Bool). signed s c) (sym (le-leb (top fmt) b k)) ∙ sym (truncated-bits fmt b h));
     }
 
 -- ---- as the code shifts

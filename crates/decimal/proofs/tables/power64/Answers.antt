@@ -1,7 +1,0 @@
--- `tables::power64` meets its contract: the entry at k is the power, by the test of the whole table. Assumes nothing.
-use lib.Ieee.{binary64}
-use Rattle.decimal.proofs.Powers.{power_at}
-use Rattle.decimal.proofs.tables.power64.Goals as goal
-
-pub returns : goal.returns
-returns c = power_at binary64 c.args.k c.requires
