@@ -7,41 +7,50 @@ use Prim.Native.Nat.{ℕ, suc, ◌+◌, ◌*◌, ◌≤◌, ◌<◌}
 use lib.ListN.{length}
 use lib.Ieee.{Format}
 use borrow.Author.Tests.{lt-ltb, le-ltb, eq-eqb, ne_eqb}
+use Rattle.std.specs.Prelude.{Result, Ok, Err}
+use Rattle.std.specs.Result.{result_and, IsErrAnd}
+use Rattle.std.proofs.lemmas.Result.{err_from_is_err_and}
 use Rattle.rules.specs.Kind.{min_s, max_s, max_values, max_exponent, word_bits, meta_bytes}
 use Rattle.rules.specs.Page.{version_of, mode_of, encoding_of, s_of, count_of, vectors_of, vector_size, meta_at}
 use Rattle.rules.specs.Page as page
 use Rattle.rules.specs.Verdict.{Rows, row, ◌then◌, Verdict, fine, refuse, first, verdict, settle, answer, after, the_page, in_vector, ◌above◌, ◌below◌, ◌isnt◌}
 use Rattle.rules.specs.Read.{head_rows, offsets_row, meta_rows, payload_rows, Cursor, here, vector_rows}
-use Rattle.rules.specs.Decimal.{Pair}
+use Rattle.rules.specs.Coded.{as_pair}
+use Rattle.rules.specs.Decimal as rule
 use Rattle.rules.specs.Write.{pairs_rows}
-use Rattle.rules.specs.declared.Answer.{Answer}
-use Rattle.rules.specs.declared.Exponent.{Exponent}
-use Rattle.rules.specs.declared.Factor.{Factor}
+use Rattle.checks.specs.declared.check.Refusal.{Refusal}
+use Rattle.rules.specs.declared.Pair.{Pair}
 use Rattle.rules.proofs.Rows.{first-first}
-use Rattle.checks.specs.Forms.{as_verdict, as_meta, pair_rows}
-use Rattle.checks.specs.declared.check.Check.{Check}
-use Rattle.checks.specs.declared.check.Check.TheVariants.{Fine, No}
+use Rattle.checks.specs.Forms.{answered, as_verdict, as_meta, pair_rows}
 use Rattle.checks.specs.declared.vector.Meta.{Meta}
 
 -- ---- one check after another
 
-pub check_fine : (r : Check) {x : Verdict} → as_verdict r ≡ x → r ≡ Fine → x ≡ fine
-check_fine r e f = sym e ∙ ap as_verdict f
+-- the first of two that refuses
+pub both-are : (s r q : Result Unit Refusal) {x y : Verdict} → s ≡ result_and r q → as_verdict r ≡ x → as_verdict q ≡ y → as_verdict s ≡ first x y
+both-are s (Ok u) q {y = y} h e f = ap as_verdict h ∙ f ∙ ap (λ (z : Verdict). first z y) e
+both-are s (Err a) q {y = y} h e f = ap as_verdict h ∙ ap (λ (z : Verdict). first z y) e
 
--- the first of two groups refuses; or it passes, and the second decides
-module _ (r : Check) (x : Verdict) (e : as_verdict r ≡ x) where
-  pub stops : (a : Answer) (y : Verdict) → r ≡ No a → as_verdict (No a) ≡ first x y
-  stops a y f = ap (λ (z : Verdict). first z y) (ap as_verdict (sym f) ∙ e)
+-- a check that passes, or that refuses, and `?` hands its refusal on
+module _ (r : Result Unit Refusal) {x : Verdict} (e : as_verdict r ≡ x) where
+  pub check_fine : {u : Unit} → r ≡ Ok u → x ≡ fine
+  check_fine f = sym e ∙ ap as_verdict f
 
-  pub goes_on : (q : Check) (y : Verdict) → r ≡ Fine → as_verdict q ≡ y → as_verdict q ≡ first x y
-  goes_on q y f g = g ∙ ap (λ (z : Verdict). first z y) (sym (check_fine r e f))
+  -- the first of two groups refuses; or it passes, and the second decides
+  pub stops : (s : Result Unit Refusal) (a : Refusal) (y : Verdict) → r ≡ Err a → IsErrAnd s (λ b. b ≡ a) → as_verdict s ≡ first x y
+  stops s a y f h =
+      let p = err_from_is_err_and s h in
+      rw (p.1, p.2) (ap (λ (z : Verdict). first z y) (ap as_verdict (sym f) ∙ e))
 
-  pub continues : (y z : Verdict) → r ≡ Fine → z ≡ first x y → z ≡ y
-  continues y z f h = h ∙ ap (λ (k : Verdict). first k y) (check_fine r e f)
+  pub goes_on : {u : Unit} (q : Result Unit Refusal) (y : Verdict) → r ≡ Ok u → as_verdict q ≡ y → as_verdict q ≡ first x y
+  goes_on q y f g = g ∙ ap (λ (z : Verdict). first z y) (sym (check_fine f))
+
+  pub continues : {u : Unit} (y z : Verdict) → r ≡ Ok u → z ≡ first x y → z ≡ y
+  continues y z f h = h ∙ ap (λ (k : Verdict). first k y) (check_fine f)
 
 -- what a call answers and leaves where its rows refuse
-module _ (a : Answer) (v : Verdict) (xs : List ℕ) (e : as_verdict (No a) ≡ v) where
-  pub refused-answer : a ≡ answer (settle v xs)
+module _ (a : Refusal) (v : Verdict) (xs : List ℕ) (e : as_verdict (Err a) ≡ v) where
+  pub refused-answer : answered (Err a) ≡ answer (settle v xs)
   refused-answer = ap (λ (x : Verdict). answer (settle x xs)) e
 
   pub refused-after : (out : List ℕ) → out ≡ after (settle v xs) out
@@ -97,22 +106,22 @@ module _ (bs : List ℕ) where
 
 -- ---- rows 9 and 10
 
-module _ (fmt : Format) (v : ℕ) (e : Exponent) (f : Factor) where
-  pub no9 : max_exponent fmt < e.0 → refuse 9 (in_vector v) ≡ verdict (pair_rows fmt v e f)
-  no9 h = rw (lt-ltb (max_exponent fmt) e.0 h)
+module _ (fmt : Format) (v : ℕ) (p : Pair) where
+  pub no9 : max_exponent fmt < p.exponent.0 → refuse 9 (in_vector v) ≡ verdict (pair_rows fmt v p)
+  no9 h = rw (lt-ltb (max_exponent fmt) p.exponent.0 h)
 
-  pub no10 : e.0 ≤ max_exponent fmt → e.0 < f.0 → refuse 10 (in_vector v) ≡ verdict (pair_rows fmt v e f)
-  no10 h k = rw (le-ltb (max_exponent fmt) e.0 h, lt-ltb e.0 f.0 k)
+  pub no10 : p.exponent.0 ≤ max_exponent fmt → p.exponent.0 < p.factor.0 → refuse 10 (in_vector v) ≡ verdict (pair_rows fmt v p)
+  no10 h k = rw (le-ltb (max_exponent fmt) p.exponent.0 h, lt-ltb p.exponent.0 p.factor.0 k)
 
-  pub pair-passes : e.0 ≤ max_exponent fmt → f.0 ≤ e.0 → fine ≡ verdict (pair_rows fmt v e f)
-  pair-passes h k = rw (le-ltb (max_exponent fmt) e.0 h, le-ltb e.0 f.0 k)
+  pub pair-passes : p.exponent.0 ≤ max_exponent fmt → p.factor.0 ≤ p.exponent.0 → fine ≡ verdict (pair_rows fmt v p)
+  pair-passes h k = rw (le-ltb (max_exponent fmt) p.exponent.0 h, le-ltb p.exponent.0 p.factor.0 k)
 
 -- the writer's: those of the first pair, then those of the others
-pub pairs_turn : (fmt : Format) (v : ℕ) (e : Exponent) (f : Factor) (ps : List Pair)
-    → verdict (pairs_rows fmt v (record { exponent = e.0; factor = f.0 } ∷ ps)) ≡ verdict (pair_rows fmt v e f then pairs_rows fmt (suc v) ps)
+pub pairs_turn : (fmt : Format) (v : ℕ) (p : Pair) (ps : List rule.Pair)
+    → verdict (pairs_rows fmt v (as_pair p ∷ ps)) ≡ verdict (pair_rows fmt v p then pairs_rows fmt (suc v) ps)
 unfolding pairs_rows
-pairs_turn fmt v e f ps =
-    sym (first-first (verdict (row 9 (in_vector v) (e.0 above max_exponent fmt))) (verdict (row 10 (in_vector v) (f.0 above e.0))) (verdict (pairs_rows fmt (suc v) ps)))
+pairs_turn fmt v p ps =
+    sym (first-first (verdict (row 9 (in_vector v) (p.exponent.0 above max_exponent fmt))) (verdict (row 10 (in_vector v) (p.factor.0 above p.exponent.0))) (verdict (pairs_rows fmt (suc v) ps)))
 
 -- ---- 7 for metadata, 9 to 12, 7 for data: k is the metadata as the code holds it
 
@@ -128,13 +137,13 @@ module _ (fmt : Format) (v n : ℕ) (bs : List ℕ) where
   no7_meta h = rw (lt-ltb (length bs) (meta_bytes fmt) h)
 
   module _ (k : Meta) (e : as_meta k ≡ meta_at fmt bs) (p7 : meta_bytes fmt ≤ length bs) where
-    pub from9 : verdict (meta_rows fmt v n (meta_at fmt bs) bs) ≡ first (verdict (pair_rows fmt v k.exponent k.factor)) (verdict (behind-pair fmt v n k bs))
+    pub from9 : verdict (meta_rows fmt v n (meta_at fmt bs) bs) ≡ first (verdict (pair_rows fmt v k.pair)) (verdict (behind-pair fmt v n k bs))
     unfolding meta_rows
     from9 =
         ap (λ (m : page.Meta). verdict (meta_rows fmt v n m bs)) (sym e)
-        ∙ rw (le-ltb (length bs) (meta_bytes fmt) p7) (sym (first-first (verdict (row 9 (in_vector v) (k.exponent.0 above max_exponent fmt))) (verdict (row 10 (in_vector v) (k.factor.0 above k.exponent.0))) (verdict (behind-pair fmt v n k bs))))
+        ∙ rw (le-ltb (length bs) (meta_bytes fmt) p7) (sym (first-first (verdict (row 9 (in_vector v) (k.pair.exponent.0 above max_exponent fmt))) (verdict (row 10 (in_vector v) (k.pair.factor.0 above k.pair.exponent.0))) (verdict (behind-pair fmt v n k bs))))
 
-    module _ (p9 : verdict (pair_rows fmt v k.exponent k.factor) ≡ fine) where
+    module _ (p9 : verdict (pair_rows fmt v k.pair) ≡ fine) where
       from11 : verdict (meta_rows fmt v n (meta_at fmt bs) bs) ≡ verdict (behind-pair fmt v n k bs)
       from11 = from9 ∙ ap (λ (z : Verdict). first z (verdict (behind-pair fmt v n k bs))) p9
 

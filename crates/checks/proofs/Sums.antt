@@ -20,11 +20,12 @@ use Rattle.digits.proofs.Laws.{length_to}
 use Rattle.rules.specs.Kind.{word, meta_bytes}
 use Rattle.rules.specs.Vector.{fields, wholes}
 use Rattle.rules.specs.Page.{Meta, meta_at, raw_from}
-use Rattle.rules.specs.Verdict.{Verdict, row, first, verdict, in_vector_at, ◌below◌}
+use Rattle.rules.specs.Verdict.{Verdict, row, fine, refuse, first, verdict, in_vector_at, ◌below◌}
 use Rattle.rules.specs.Read.{out_of_range, sums_rows}
 use Rattle.rules.proofs.Fields.{double, sub_ge, sub_lt}
 use Rattle.bits.specs.Above.{first_above}
 use Rattle.checks.specs.Forms.{raw_at}
+use Rattle.checks.proofs.Bounds.{cut-is}
 
 -- ---- the range above a frame: of h numbers from 0 up, and of h below
 
@@ -84,16 +85,23 @@ module _ (fmt : Format) (frame : ℤ) (most : ℕ) (room : (d : ℕ) → out_of_
       go true rest e = rw (add-zero i, lt-ltb 0 (suc (length ds)) (omega arith))
       go false rest e = rw (add-suc i (first_above most ds), ← suc-add i (first_above most ds), suc_ltb (first_above most ds) (length ds)) e
 
--- of the vector of n values at the front of bs: m is its metadata, and `cut` bytes from `start` on are its packed part
-module _ (fmt : Format) (v n : ℕ) (bs : List ℕ) (m : Meta) (em : m ≡ meta_at fmt bs) (most : ℕ) (room : (d : ℕ) → out_of_range fmt (to_z (word fmt) m.frame +ℤ pos d) ≡ ltb most d) where
-  pub sums-are : (start cut : ℕ) → start ≡ meta_bytes fmt → cut ≡ packed_size n m.width → (i : ℕ) → i ≡ first_above most (unpack m.width n (take cut (drop start bs)))
-      → verdict (row 17 (in_vector_at v i) (i below n)) ≡ verdict (sums_rows fmt v 0 (wholes fmt (raw_at fmt n bs)))
+-- of the vector of n values at the front of bs: m is its metadata, `size` bytes from `start` on are its packed part, and i is the number of
+-- the first field that is above
+module _ (fmt : Format) (v n : ℕ) (bs : List ℕ) (m : Meta) (em : m ≡ meta_at fmt bs) (most : ℕ) (room : (d : ℕ) → out_of_range fmt (to_z (word fmt) m.frame +ℤ pos d) ≡ ltb most d)
+    (start size i : ℕ) (es : start ≡ meta_bytes fmt) (ez : size ≡ packed_size n m.width) (ei : i ≡ first_above most (unpack m.width n (take (start + size - start) (drop start bs)))) where
+  sums-are : verdict (row 17 (in_vector_at v i) (i below n)) ≡ verdict (sums_rows fmt v 0 (wholes fmt (raw_at fmt n bs)))
   unfolding wholes fields raw_from
-  sums-are start cut es ec i ei =
+  sums-are =
       let sum : ℕ → ℤ = λ d. to_z (word fmt) m.frame +ℤ pos d in
-      let ds : List ℕ = unpack m.width n (take cut (drop start bs)) in
-      ap₂ (λ (x k : ℕ). verdict (row 17 (in_vector_at v x) (x below k))) ei (sym (length_to (2 ^ m.width) n (number (take cut (drop start bs)))))
+      let ds : List ℕ = unpack m.width n (take (start + size - start) (drop start bs)) in
+      ap₂ (λ (x k : ℕ). verdict (row 17 (in_vector_at v x) (x below k))) ei (sym (length_to (2 ^ m.width) n (number (take (start + size - start) (drop start bs)))))
       ∙ ap (λ (x : ℕ). verdict (row 17 (in_vector_at v x) (first_above most ds below length ds))) (sym (zero-add (first_above most ds)))
       ∙ sums_first fmt (to_z (word fmt) m.frame) most room v 0 ds
-      ∙ ap₂ (λ (k j : ℕ). verdict (sums_rows fmt v 0 (map sum (unpack m.width n (take k (drop j bs)))))) ec es
+      ∙ ap₂ (λ (k j : ℕ). verdict (sums_rows fmt v 0 (map sum (unpack m.width n (take k (drop j bs)))))) (cut-is start size n m.width ez) es
       ∙ ap (λ (x : Meta). verdict (sums_rows fmt v 0 (wholes fmt (raw_from fmt n x (drop (meta_bytes fmt) bs))))) em
+
+  pub sum_leaves : i < n → refuse 17 (in_vector_at v i) ≡ verdict (sums_rows fmt v 0 (wholes fmt (raw_at fmt n bs)))
+  sum_leaves h = ap (λ (b : Bool). verdict (row 17 (in_vector_at v i) b)) (sym (lt-ltb i n h)) ∙ sums-are
+
+  pub sums_stay : n ≤ i → fine ≡ verdict (sums_rows fmt v 0 (wholes fmt (raw_at fmt n bs)))
+  sums_stay h = ap (λ (b : Bool). verdict (row 17 (in_vector_at v i) b)) (sym (le-ltb i n h)) ∙ sums-are

@@ -10,6 +10,8 @@ use lib.ListN.{length, take, drop, length-drop}
 use lib.Seq.{drop-drop}
 use lib.Ieee.{Format}
 use borrow.Author.Tests.{lt-ltb, le-ltb}
+use Rattle.std.specs.Prelude.{Result, Ok, Err}
+use Rattle.std.specs.Result.{IsErrAnd}
 use Rattle.digits.specs.Digits.{number, numbers, packed_size}
 use Rattle.digits.proofs.Rows.{numbers-at, numbers-start, numbers-end}
 use Rattle.rules.specs.Kind.{meta_bytes}
@@ -17,9 +19,11 @@ use Rattle.rules.specs.Page.{Meta, s_of, count_of, vectors_of, offsets_of, body_
 use Rattle.rules.specs.Verdict.{Rows, row, Verdict, fine, refuse, first, verdict, the_page, in_vector_at, ◌above◌, ◌below◌}
 use Rattle.rules.specs.Read.{start, positions_rows, vector_rows, vectors_rows, page_rows}
 use Rattle.rules.specs.Vector.{Raw}
+use Rattle.checks.specs.declared.check.Refusal.{Refusal}
 use Rattle.rules.proofs.Rows.{first_fine}
 use Rattle.rules.proofs.Reading.{Passed, vector-fine, page_fine}
-use Rattle.checks.specs.Forms.{no_position}
+use Rattle.checks.specs.Forms.{as_verdict, no_position}
+use Rattle.checks.proofs.Refusals.{check_fine, stops, continues}
 
 -- ---- row 13
 
@@ -74,7 +78,7 @@ behind page at s = drop-drop s (8 + at) page ∙ ap (λ (x : ℕ). drop x page) 
 module _ (fmt : Format) (page part : List ℕ) (size many v at left o n k : ℕ) (X : Verdict) (more : v < many)
     (ep : part ≡ drop (8 + at) page) (eo : o ≡ number (take 4 (drop (8 + 4 * v) page))) (en : n ≡ min size left) (ek : k ≡ vector_size fmt n (meta_at fmt part))
     (inv : X ≡ verdict (vectors-left fmt page size many v at left)) where
-  pub vector-turn : X ≡ first (verdict (vector_rows fmt size (record { vector = v; offset = at; left = left }) o (meta_at fmt part) part)) (verdict (vectors-left fmt page size many (v + 1) (at + k) (left - n)))
+  vector-turn : X ≡ first (verdict (vector_rows fmt size (record { vector = v; offset = at; left = left }) o (meta_at fmt part) part)) (verdict (vectors-left fmt page size many (v + 1) (at + k) (left - n)))
   unfolding vectors_rows
   vector-turn =
       let B : List ℕ = drop (8 + at) page in
@@ -85,6 +89,38 @@ module _ (fmt : Format) (page part : List ℕ) (size many v at left o n k : ℕ)
       (inv ∙ ap (λ (x : List ℕ). verdict (vectors_rows fmt size (record { vector = v; offset = at; left = left }) x B)) (numbers-at 4 many v 8 page more ∙ ap (λ (x : ℕ). x ∷ os) (sym eo))
       ∙ ap (λ (x : ℕ). first (verdict (vector_rows fmt size (record { vector = v; offset = at; left = left }) o (meta_at fmt B) B)) (verdict (vectors_rows fmt size (record { vector = x; offset = at + S; left = left - size }) os (drop S B)))) (sym (add-one v))
       ∙ ap₂ (λ (x : ℕ) (y : List ℕ). first (verdict (vector_rows fmt size (record { vector = v; offset = at; left = left }) o (meta_at fmt B) B)) (verdict (vectors_rows fmt size (record { vector = v + 1; offset = at + S; left = x }) os y))) l (behind page at S))
+
+-- a vector whose bytes are all there ends inside the page
+pub ends_inside : (page part : List ℕ) (at k : ℕ) → part ≡ drop (8 + at) page → 8 + at ≤ length page → k ≤ length part → 8 + (at + k) ≤ length page
+ends_inside page part at k e h l = let d = ap length e ∙ length-drop (8 + at) page in omega arith
+
+-- the vector of number v has been checked: r is what its rows gave, and X what all rows come to
+pub record Checked (fmt : Format) (page part : List ℕ) (size many v at left o : ℕ) (X : Verdict) (r : Result Unit Refusal) : Type 0 where
+  pub more : v < many
+  pub fits : 8 + at ≤ length page
+  pub part_is : part ≡ drop (8 + at) page
+  pub offset_is : o ≡ number (take 4 (drop (8 + 4 * v) page))
+  pub rows_left : X ≡ verdict (vectors-left fmt page size many v at left)
+  pub gave : as_verdict r ≡ verdict (vector_rows fmt size (record { vector = v; offset = at; left = left }) o (meta_at fmt part) part)
+
+module _ {fmt : Format} {page part : List ℕ} {size many v at left o : ℕ} {X : Verdict} {r : Result Unit Refusal} (c : Checked fmt page part size many v at left o X r) where
+  -- it refuses, and so does the page
+  pub vector-refuses : (s : Result Unit Refusal) (a : Refusal) → r ≡ Err a → IsErrAnd s (λ b. b ≡ a) → as_verdict s ≡ X
+  vector-refuses s a f h = stops r c.gave s a _ f h ∙ sym (vector-turn fmt page part size many v at left o (min size left) _ X c.more c.part_is c.offset_is refl refl c.rows_left)
+
+  -- it passes
+  module _ {u : Unit} (ok : r ≡ Ok u) where
+    pub vector-shown : Passed fmt (min size left) (meta_at fmt part) part
+    vector-shown = (vector-fine fmt size (record { vector = v; offset = at; left = left }) o (meta_at fmt part) part (check_fine r c.gave ok)).1
+
+    module _ (n k : ℕ) (en : n ≡ min size left) (ek : k ≡ vector_size fmt n (meta_at fmt part)) where
+      pub vector-inside : 8 + (at + k) ≤ length page
+      vector-inside =
+          let whole = vector-shown.whole in
+          ends_inside page part at k c.part_is c.fits (omega (arith, whole, ek, ap (λ (x : ℕ). vector_size fmt x (meta_at fmt part)) en))
+
+      pub vector-next : X ≡ verdict (vectors-left fmt page size many (v + 1) (at + k) (left - n))
+      vector-next = continues r c.gave _ X ok (vector-turn fmt page part size many v at left o n k X c.more c.part_is c.offset_is en ek c.rows_left)
 
 module _ (fmt : Format) (page : List ℕ) (size many v at left : ℕ) (X : Verdict) (last : many ≤ v) (fits : 8 + at ≤ length page)
     (inv : X ≡ verdict (vectors-left fmt page size many v at left)) where
@@ -151,7 +187,3 @@ module _ (fmt : Format) (page part : List ℕ) (size many v at left n k : ℕ) (
 
     pub vectors-passed : verdict (vectors-left fmt page size many (v + 1) (at + k) (left - n)) ≡ fine
     vectors-passed = passing.1
-
--- a vector whose bytes are all there ends inside the page
-pub ends_inside : (page part : List ℕ) (at k : ℕ) → part ≡ drop (8 + at) page → 8 + at ≤ length page → k ≤ length part → 8 + (at + k) ≤ length page
-ends_inside page part at k e h l = let d = ap length e ∙ length-drop (8 + at) page in omega arith

@@ -1,33 +1,40 @@
-// What a check gives: nothing to refuse, or the answer of the first row that refuses.
+// What a check gives: Ok, or the first row that refuses and where. `a.and(b)` is the first of two checks that refuses.
 ghost use Rattle.std.specs.Prelude.{◌≡◌};
-ghost use Rattle.rules.specs.Verdict.{refuse, first, in_vector_at};
-ghost use Rattle.checks.specs.Forms.{as_verdict};
+ghost use Rattle.rules.specs.Verdict.{refuse, in_vector_at};
+ghost use Rattle.rules.specs.Coded.{number_of};
+ghost use Rattle.checks.specs.Forms.{as_verdict, answered};
 
-use rules::Answer;
+use rules::{Answer, Row};
 
+// The row, and where: the vector and the place that it names, each 0 where it names none.
 #[derive(Clone, Copy)]
-pub enum Check {
-    Fine,
-    No(Answer),
+pub struct Refusal {
+    pub row: Row,
+    pub vector: usize,
+    pub place: usize,
 }
 
 // The row refuses, at this vector and place.
-pub fn refuses(row: u64, vector: usize, place: usize) -> Check
-    ensures { as_verdict result ≡ refuse row (in_vector_at vector place) }
+pub fn refuses(row: Row, vector: usize, place: usize) -> Result<(), Refusal>
+    ensures { as_verdict result ≡ refuse (number_of row) (in_vector_at vector place) }
 {
-    Check::No(Answer {
-        number: row,
-        vector: vector as u64,
-        place: place as u64,
-    })
+    Err(Refusal { row, vector, place })
 }
 
-// The first of two checks that refuses.
-pub fn first_of(a: Check, b: Check) -> Check
-    ensures { as_verdict result ≡ first (as_verdict a) (as_verdict b) }
+// What a call answers: done, with a count as place, or the refusal.
+pub fn answer_of(called: Result<usize, Refusal>) -> Answer
+    ensures { result ≡ answered called }
 {
-    match a {
-        Check::No(answer) => Check::No(answer),
-        Check::Fine => b,
+    match called {
+        Ok(place) => Answer {
+            number: 0,
+            vector: 0,
+            place: place as u64,
+        },
+        Err(refusal) => Answer {
+            number: refusal.row as u64,
+            vector: refusal.vector as u64,
+            place: refusal.place as u64,
+        },
     }
 }

@@ -6,16 +6,17 @@ ghost use Rattle.rules.specs.Verdict.{fine, verdict};
 ghost use Rattle.rules.specs.Read.{head_rows, offsets_row};
 ghost use Rattle.checks.specs.Forms.{as_verdict};
 
-use crate::check::{Check, refuses};
-use crate::sizes::{MAX_S, MAX_VALUES, MIN_S, size_of, vectors_of, wide};
-use bits::numbers::read_u32;
+use crate::check::{Refusal, refuses};
+use crate::sizes::{MAX_S, MAX_VALUES, MIN_S, size_of, vectors_of};
+use bits::word::Word;
+use rules::Row;
 
 // The header's s.
 pub fn s_of(page: &[u8]) -> usize
     requires { 8 ≤ length page.now }
     ensures { result ≡ s_of page.now }
 {
-    wide(page[3])
+    usize::from(page[3])
 }
 
 // The header's count of values.
@@ -23,7 +24,7 @@ pub fn count_of(page: &[u8]) -> usize
     requires { 8 ≤ length page.now }
     ensures { (result ≡ count_of page.now) × (result < 2 ^ 32) }
 {
-    read_u32(page, 4) as usize
+    u32::read(page, 4) as usize
 }
 
 // The count of vectors, on a page whose rows 1 to 6 pass.
@@ -38,43 +39,40 @@ pub fn vectors_in(page: &[u8]) -> usize
 }
 
 // Rows 1 to 6.
-pub fn check_head(page: &[u8]) -> Check
+pub fn check_head(page: &[u8]) -> Result<(), Refusal>
     ensures { as_verdict result ≡ verdict (head_rows page.now) }
 {
     if page.len() < 8 {
-        return refuses(1, 0, 0);
+        return refuses(Row::FewBytes, 0, 0);
     }
     if page[0] != 1 {
-        return refuses(2, 0, 0);
+        return refuses(Row::Version, 0, 0);
     }
     if page[1] != 0 {
-        return refuses(3, 0, 0);
+        return refuses(Row::Mode, 0, 0);
     }
     if page[2] != 0 {
-        return refuses(4, 0, 0);
+        return refuses(Row::IntegerEncoding, 0, 0);
     }
     let s = s_of(page);
-    if s < MIN_S {
-        return refuses(5, 0, 0);
-    }
-    if MAX_S < s {
-        return refuses(5, 0, 0);
+    if s < MIN_S || MAX_S < s {
+        return refuses(Row::VectorSize, 0, 0);
     }
     let n = count_of(page);
     if MAX_VALUES < n {
-        return refuses(6, 0, 0);
+        return refuses(Row::TooManyValues, 0, 0);
     }
-    Check::Fine
+    Ok(())
 }
 
 // Row 7 for the offsets, once rows 1 to 6 pass.
-pub fn check_offsets(page: &[u8]) -> Check
+pub fn check_offsets(page: &[u8]) -> Result<(), Refusal>
     requires { verdict (head_rows page.now) ≡ fine }
     ensures { as_verdict result ≡ verdict (offsets_row page.now) }
 {
     let many = vectors_in(page);
     if page.len() < 8 + 4 * many {
-        return refuses(7, 0, 0);
+        return refuses(Row::PastEnd, 0, 0);
     }
-    Check::Fine
+    Ok(())
 }

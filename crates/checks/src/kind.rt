@@ -1,14 +1,11 @@
-// The two float kinds, and the numbers of each. Every number has its bound beside it, so that no caller goes by cases.
+// The numbers of the two float kinds, for code that needs no more of a kind than these. Every number has its bound beside it, so that no
+// caller goes by cases.
 ghost use Rattle.std.specs.Prelude.{◌≡◌, ◌^◌, ◌≤◌, ◌<◌};
 ghost use mir.Val.{hbits};
 ghost use Rattle.rules.specs.Kind.{word, word_bytes, word_bits, max_exponent, meta_bytes};
-ghost use Rattle.checks.specs.Forms.{format_of};
+ghost use Rattle.rules.specs.Coded.{format_of};
 
-#[derive(Clone, Copy)]
-pub enum Kind {
-    Single,
-    Double,
-}
+use rules::Kind;
 
 // How many bytes a value has.
 pub fn value_bytes(kind: Kind) -> usize

@@ -1,10 +1,11 @@
 // The limits of a page, and how many values, vectors and bytes there are.
-ghost use Rattle.std.specs.Prelude.{◌≡◌, ◌+◌, ◌-◌, ◌*◌, ◌/◌, ◌^◌, ◌≤◌, ◌<◌, min};
+ghost use Rattle.std.specs.Prelude.{◌≡◌, ◌+◌, ◌-◌, ◌*◌, ◌/◌, ◌^◌, ◌≤◌, ◌<◌};
 ghost use Rattle.digits.specs.Digits.{packed_size};
 ghost use Rattle.rules.specs.Kind.{max_s, max_values, word_bytes, meta_bytes};
-ghost use Rattle.checks.specs.Forms.{format_of};
+ghost use Rattle.rules.specs.Coded.{format_of};
 
-use crate::kind::{Kind, meta_bytes, value_bytes};
+use crate::kind::{meta_bytes, value_bytes};
+use rules::Kind;
 
 // Rows 5 and 6 keep s and the count of values to these.
 pub const MIN_S: usize = 3;
@@ -12,20 +13,6 @@ pub const MIN_S: usize = 3;
 pub const MAX_S: usize = 10;
 
 pub const MAX_VALUES: usize = 16384;
-
-// The lesser of two.
-pub fn least(a: usize, b: usize) -> usize
-    ensures { result ≡ min a b }
-{
-    if a <= b { a } else { b }
-}
-
-// A byte as a count.
-pub fn wide(x: u8) -> usize
-    ensures { (result ≡ x) × (result < 256) }
-{
-    x as usize
-}
 
 // How many values a full vector holds.
 pub fn size_of(s: usize) -> usize

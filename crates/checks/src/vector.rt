@@ -8,20 +8,20 @@ ghost use Rattle.rules.specs.Page.{meta_at};
 ghost use Rattle.rules.specs.Verdict.{verdict, row, in_vector, ◌isnt◌};
 ghost use Rattle.rules.specs.Read.{meta_rows, positions_rows, out_of_range, sums_rows, payload_rows, here, vector_rows};
 ghost use Rattle.rules.proofs.Reading.{MetaPassed};
-ghost use Rattle.checks.specs.Forms.{format_of, as_verdict, as_cursor, FoundMeta, pair_rows, raw_at, no_position};
+ghost use Rattle.rules.specs.Coded.{format_of};
+ghost use Rattle.checks.specs.Forms.{as_verdict, as_cursor, FoundMeta, pair_rows, raw_at, no_position};
 
-use crate::check::{Check, first_of, refuses};
-use crate::kind::{Kind, half_range, largest_exponent, largest_width, meta_bytes, value_bytes};
-use crate::sizes::{least, packed_size, vector_size, wide};
-use bits::numbers::{read_u16, read_u32, read_u64};
+use crate::check::{Refusal, refuses};
+use crate::kind::{half_range, largest_exponent, largest_width, meta_bytes, value_bytes};
+use crate::sizes::{packed_size, vector_size};
 use bits::windows::first_above;
-use rules::{Exponent, Factor};
+use bits::word::Word;
+use rules::{Exponent, Factor, Kind, Pair, Row};
 
 // A vector's metadata.
 #[derive(Clone, Copy)]
 pub struct Meta {
-    pub exponent: Exponent,
-    pub factor: Factor,
+    pub pair: Pair,
     pub listed: usize,
     pub frame: u64,
     pub width: usize,
@@ -41,8 +41,8 @@ fn frame_at(part: &[u8], kind: Kind) -> u64
     ensures { (result ≡ number (take (word_bytes (format_of kind)) (drop 4 part.now))) × (result < 2 ^ word_bits (format_of kind)) }
 {
     match kind {
-        Kind::Single => read_u32(part, 4) as u64,
-        Kind::Double => read_u64(part, 4),
+        Kind::Single => u32::read(part, 4).number(),
+        Kind::Double => u64::read(part, 4),
     }
 }
 
@@ -53,11 +53,13 @@ pub fn meta_at(part: &[u8], kind: Kind) -> Meta
 {
     let word = value_bytes(kind);
     let frame = frame_at(part, kind);
-    let listed = read_u16(part, 2) as usize;
-    let width = wide(part[4 + word]);
+    let listed = usize::from(u16::read(part, 2));
+    let width = usize::from(part[4 + word]);
     Meta {
-        exponent: Exponent(part[0]),
-        factor: Factor(part[1]),
+        pair: Pair {
+            exponent: Exponent(part[0]),
+            factor: Factor(part[1]),
+        },
         listed,
         frame,
         width,
@@ -65,76 +67,66 @@ pub fn meta_at(part: &[u8], kind: Kind) -> Meta
 }
 
 // Rows 9 and 10, of the pair of vector v.
-pub fn check_pair(kind: Kind, v: usize, exponent: Exponent, factor: Factor) -> Check
-    ensures { as_verdict result ≡ verdict (pair_rows (format_of kind) v exponent factor) }
+pub fn check_pair(kind: Kind, v: usize, pair: Pair) -> Result<(), Refusal>
+    ensures { as_verdict result ≡ verdict (pair_rows (format_of kind) v pair) }
 {
-    let e = exponent.0;
-    let f = factor.0;
+    let e = pair.exponent.0;
+    let f = pair.factor.0;
     let top = largest_exponent(kind);
     if top < e {
-        return refuses(9, v, 0);
+        return refuses(Row::Exponent, v, 0);
     }
     if e < f {
-        return refuses(10, v, 0);
+        return refuses(Row::Factor, v, 0);
     }
-    Check::Fine
+    Ok(())
 }
 
 // Rows 7 for metadata, 9 to 12, 7 for data, of vector v, which has n values.
-pub fn check_meta(part: &[u8], kind: Kind, v: usize, n: usize) -> Check
+pub fn check_meta(part: &[u8], kind: Kind, v: usize, n: usize) -> Result<(), Refusal>
     requires { n ≤ 2 ^ max_s }
     ensures { as_verdict result ≡ verdict (meta_rows (format_of kind) v n (meta_at (format_of kind) part.now) part.now) }
 {
     let front = meta_bytes(kind);
     if part.len() < front {
-        return refuses(7, v, 0);
+        return refuses(Row::PastEnd, v, 0);
     }
     let m = meta_at(part, kind);
-    match check_pair(kind, v, m.exponent, m.factor) {
-        Check::No(answer) => {
-            return Check::No(answer);
-        }
-        Check::Fine => {}
-    }
+    check_pair(kind, v, m.pair)?;
     let listed = m.listed;
     if n < listed {
-        return refuses(11, v, 0);
+        return refuses(Row::TooManyExceptions, v, 0);
     }
     let width = m.width;
     let widest = largest_width(kind);
     if widest < width {
-        return refuses(12, v, 0);
+        return refuses(Row::Width, v, 0);
     }
     let size = vector_size(kind, n, width, listed);
     if part.len() < size {
-        return refuses(7, v, 0);
+        return refuses(Row::PastEnd, v, 0);
     }
-    Check::Fine
+    Ok(())
 }
 
 // Row 13 of the positions from byte `at` on.
-fn check_positions(part: &[u8], at: usize, listed: usize, v: usize, n: usize) -> Check
+fn check_positions(part: &[u8], at: usize, listed: usize, v: usize, n: usize) -> Result<(), Refusal>
     requires { at + 2 * listed ≤ length part.now }
     ensures { as_verdict result ≡ verdict (positions_rows v n no_position (numbers 2 listed (drop at part.now))) }
 {
     let mut low: usize = 0;
-    let mut i: usize = 0;
-    while i < listed {
-        let p = read_u16(part, at + 2 * i) as usize;
-        if n <= p {
-            return refuses(13, v, i);
-        }
-        if p < low {
-            return refuses(13, v, i);
+    for i in 0..listed {
+        let p = usize::from(u16::read(part, at + 2 * i));
+        if n <= p || p < low {
+            return refuses(Row::Position, v, i);
         }
         low = p + 1;
-        i += 1;
     }
-    Check::Fine
+    Ok(())
 }
 
 // Row 13 of vector v, whose bytes are all there.
-fn check_list(part: &[u8], kind: Kind, v: usize, n: usize) -> Check
+fn check_list(part: &[u8], kind: Kind, v: usize, n: usize) -> Result<(), Refusal>
     requires { (n ≤ 2 ^ max_s) × MetaPassed (format_of kind) n (meta_at (format_of kind) part.now) part.now }
     ensures { as_verdict result ≡ verdict (positions_rows v n no_position (raw_at (format_of kind) n part.now).positions) }
 {
@@ -159,7 +151,7 @@ fn headroom(kind: Kind, frame: u64) -> u64
 }
 
 // Row 17 of vector v, whose bytes are all there.
-fn check_sums(part: &[u8], kind: Kind, v: usize, n: usize) -> Check
+fn check_sums(part: &[u8], kind: Kind, v: usize, n: usize) -> Result<(), Refusal>
     requires { (n ≤ 2 ^ max_s) × MetaPassed (format_of kind) n (meta_at (format_of kind) part.now) part.now }
     ensures { as_verdict result ≡ verdict (sums_rows (format_of kind) v 0 (wholes (format_of kind) (raw_at (format_of kind) n part.now))) }
 {
@@ -170,42 +162,47 @@ fn check_sums(part: &[u8], kind: Kind, v: usize, n: usize) -> Check
     let most = headroom(kind, m.frame);
     let i = first_above(&part[front..behind], width, n, most);
     if i < n {
-        return refuses(17, v, i);
+        return refuses(Row::SumOutOfRange, v, i);
     }
-    Check::Fine
+    Ok(())
 }
 
 // Rows 13 and 17 of vector v, whose metadata's rows pass.
-pub fn check_payload(part: &[u8], kind: Kind, v: usize, n: usize) -> Check
+pub fn check_payload(part: &[u8], kind: Kind, v: usize, n: usize) -> Result<(), Refusal>
     requires { (n ≤ 2 ^ max_s) × MetaPassed (format_of kind) n (meta_at (format_of kind) part.now) part.now }
     ensures { as_verdict result ≡ verdict (payload_rows (format_of kind) v n (meta_at (format_of kind) part.now) part.now) }
 {
     let listed = check_list(part, kind, v, n);
     let summed = check_sums(part, kind, v, n);
-    first_of(listed, summed)
+    listed.and(summed)
 }
 
 // Row 8: the offset that the page has for vector v, and the layout's.
-fn check_offset(v: usize, offset: usize, laid: usize) -> Check
+fn check_offset(v: usize, offset: usize, laid: usize) -> Result<(), Refusal>
     ensures { as_verdict result ≡ verdict (row 8 (in_vector v) (offset isnt laid)) }
 {
     if offset != laid {
-        return refuses(8, v, 0);
+        return refuses(Row::Offset, v, 0);
     }
-    Check::Fine
+    Ok(())
 }
 
 // How many values the vector at the cursor holds: every vector is full but perhaps the last.
 pub fn values_here(size: usize, cursor: Cursor) -> usize
     ensures { result ≡ here size (as_cursor cursor) }
 {
-    let left = cursor.left;
-    least(size, left)
+    size.min(cursor.left)
 }
 
 // Rows 8, 7 for metadata, 9 to 12, 7 for data, 13, 17, of the vector at the cursor, for which the page has this offset. The metadata's rows
 // can be worked out of any bytes, so row 8 need not be asked first to come first.
-pub fn check_vector(part: &[u8], kind: Kind, size: usize, cursor: Cursor, offset: usize) -> Check
+pub fn check_vector(
+    part: &[u8],
+    kind: Kind,
+    size: usize,
+    cursor: Cursor,
+    offset: usize,
+) -> Result<(), Refusal>
     requires { size ≤ 2 ^ max_s }
     ensures { as_verdict result ≡ verdict (vector_rows (format_of kind) size (as_cursor cursor) offset (meta_at (format_of kind) part.now) part.now) }
 {
@@ -214,11 +211,6 @@ pub fn check_vector(part: &[u8], kind: Kind, size: usize, cursor: Cursor, offset
     let n = values_here(size, cursor);
     let placed = check_offset(v, offset, laid);
     let described = check_meta(part, kind, v, n);
-    match first_of(placed, described) {
-        Check::No(answer) => {
-            return Check::No(answer);
-        }
-        Check::Fine => {}
-    }
+    placed.and(described)?;
     check_payload(part, kind, v, n)
 }

@@ -5,4 +5,4 @@ use Rattle.checks.proofs.head.count_of.Goals as goal
 
 pub returns : goal.returns
 unfolding count_of
-returns c = (c.read_u32.ensures, omega arith)
+returns c = (c.read.ensures, omega arith)

@@ -1,20 +1,16 @@
 -- `page::check_vectors` meets its contract: the rows of all vectors are those of the vectors from the loop's place on. Assumes nothing.
-use mathlib.Core.Path.{◌≡◌, refl, sym, ap, ◌∙◌}
-use mathlib.Core.List.{List}
-use Prim.Native.Nat.{ℕ, ◌+◌, ◌-◌, ◌^◌, ◌≤◌}
+use mathlib.Core.Path.{ap, ◌∙◌}
+use Prim.Native.Nat.{ℕ, ◌+◌, ◌^◌}
 use native.Mathlib.Omega.{arith}
-use lib.ListN.{length}
 use Rattle.digits.proofs.Lists.{lent, lent_is}
-use Rattle.rules.specs.Page.{s_of, offsets_of, body_of, Meta, vector_size, meta_at}
-use Rattle.rules.specs.Verdict.{Rows, ◌then◌, verdict}
-use Rattle.rules.specs.Read.{Cursor, here, start, vector_rows, vectors_rows}
-use lib.Ieee.{Format}
-use Rattle.checks.specs.declared.check.Check.TheVariants.{Fine}
-use Rattle.rules.proofs.Reading.{header-fine, offsets-fine, vector-fine, Passed}
-use Rattle.checks.specs.Forms.{format_of}
-use Rattle.checks.proofs.Refusals.{check_fine, stops, continues}
-use Rattle.checks.proofs.Turns.{vectors-left, vectors-start, vector-turn, no14, ends, ends_inside}
+use Rattle.rules.specs.Page.{s_of, offsets_of, body_of, vector_size}
+use Rattle.rules.specs.Verdict.{verdict}
+use Rattle.rules.specs.Read.{start, vectors_rows}
+use Rattle.rules.specs.Coded.{format_of}
+use Rattle.rules.proofs.Reading.{header-fine, offsets-fine}
+use Rattle.checks.proofs.Turns.{vectors-start, Checked, vector-refuses, vector-shown, vector-inside, vector-next, no14, ends}
 use Rattle.checks.proofs.page.check_vectors.Goals as goal
+use Rattle.checks.proofs.page.check_vectors.Goals.{After-check_vector}
 
 pub s_of-s-requires : goal.s_of-s-requires
 s_of-s-requires c = (header-fine c.args.page.now c.requires.0).eight
@@ -30,107 +26,47 @@ loop-v-init c =
     let page = c.args.page.now in
     let room = offsets-fine page c.requires.1 in
     let size = c.size_of-size.ensures.0 ∙ ap (λ (x : ℕ). 2 ^ x) c.s_of-s.ensures in
-    (omega arith, omega arith, omega arith, vectors-start (format_of c.args.kind) page c.size_of-size.result c.vectors_in-many.result c.count_of-left.result size c.vectors_in-many.ensures.0 c.count_of-left.ensures.0)
+    (omega arith, omega arith, vectors-start (format_of c.args.kind) page c.size_of-size.result c.vectors_in-many.result c.count_of-left.result size c.vectors_in-many.ensures.0 c.count_of-left.ensures.0)
 
-pub returns-in-No : goal.returns-in-No
-returns-in-No c =
-    let page-at : List ℕ = c.args.page.now in
-    let fmt-at : Format = format_of c.args.kind in
-    let cursor-at : Cursor = let l = c.loop-v in record { vector = l.v; offset = l.at; left = l.left } in
-    let part_at : List ℕ = lent (8 + cursor-at.offset) page-at in
-    let meta-here : Meta = meta_at fmt-at part_at in
-    let size-at : ℕ = c.size_of-size.result in
-    let rows-here : Rows = vector_rows fmt-at size-at cursor-at c.read_u32-offset.result meta-here part_at in
-    let rows_behind : ℕ → ℕ → Rows =
-    λ n k. vectors-left fmt-at page-at size-at c.vectors_in-many.result (cursor-at.vector + 1) (cursor-at.offset + k) (cursor-at.left - n)
-    in
-    let turn : (n k : ℕ) → n ≡ here size-at cursor-at → k ≡ vector_size fmt-at n meta-here
-    → verdict (vectors_rows fmt-at (2 ^ s_of page-at) (start page-at) (offsets_of page-at) (body_of page-at)) ≡ verdict (rows-here then rows_behind n k) =
-    λ n k en ek. let l = c.loop-v in
-    vector-turn fmt-at page-at part_at size-at c.vectors_in-many.result l.v l.at l.left c.read_u32-offset.result n k _
-    c.loop-v-test.true (lent_is (8 + l.at) page-at) c.read_u32-offset.ensures en ek l.invariant.3
-    in
-    stops c.check_vector.result _ c.check_vector.ensures _ _ c.in-No.is
-    ∙ sym (turn _ _ refl refl)
+checked : (c : After-check_vector) → let page = c.args.page.now in let l = c.loop-v in let fmt = format_of c.args.kind in
+    Checked fmt page (lent (8 + l.at) page) c.size_of-size.result c.vectors_in-many.result l.v l.at l.left c.read-offset.result
+    (verdict (vectors_rows fmt (2 ^ s_of page) (start page) (offsets_of page) (body_of page))) c.check_vector.result
+checked c =
+    let l = c.loop-v in
+    record {
+      more = c.loop-v-test.true;
+      fits = l.invariant.1;
+      part_is = lent_is (8 + l.at) c.args.page.now;
+      offset_is = c.read-offset.ensures;
+      rows_left = l.invariant.2;
+      gave = c.check_vector.ensures;
+    }
+
+pub returns-in_err-check_vector : goal.returns-in_err-check_vector
+returns-in_err-check_vector c =
+    vector-refuses (checked (goal.at.returns-in_err-check_vector c).After-check_vector) c.from_residual.result c.in_err-check_vector.field-0.0 c.in_err-check_vector.was c.from_residual.ensures.1
 
 pub meta_at-m-requires : goal.meta_at-m-requires
-meta_at-m-requires c =
-    let page-at : List ℕ = c.args.page.now in
-    let fmt-at : Format = format_of c.args.kind in
-    let cursor-at : Cursor = let l = c.loop-v in record { vector = l.v; offset = l.at; left = l.left } in
-    let part_at : List ℕ = lent (8 + cursor-at.offset) page-at in
-    let meta-here : Meta = meta_at fmt-at part_at in
-    let size-at : ℕ = c.size_of-size.result in
-    let shown : c.check_vector.result ≡ Fine → Passed fmt-at (here size-at cursor-at) meta-here part_at =
-    λ f. (vector-fine fmt-at size-at cursor-at c.read_u32-offset.result meta-here part_at
-    (check_fine c.check_vector.result c.check_vector.ensures f)).1
-    in
-    (shown c.in-Fine.is).room
-
-pub overflow_add-at : goal.overflow_add-at
-overflow_add-at c =
-    let page-at : List ℕ = c.args.page.now in
-    let fmt-at : Format = format_of c.args.kind in
-    let cursor-at : Cursor = let l = c.loop-v in record { vector = l.v; offset = l.at; left = l.left } in
-    let part_at : List ℕ = lent (8 + cursor-at.offset) page-at in
-    let meta-here : Meta = meta_at fmt-at part_at in
-    let size-at : ℕ = c.size_of-size.result in
-    let shown : c.check_vector.result ≡ Fine → Passed fmt-at (here size-at cursor-at) meta-here part_at =
-    λ f. (vector-fine fmt-at size-at cursor-at c.read_u32-offset.result meta-here part_at
-    (check_fine c.check_vector.result c.check_vector.ensures f)).1
-    in
-    let size_is : c.vector_size-at.result ≡ vector_size fmt-at c.values_here-n.result meta-here =
-    c.vector_size-at.ensures ∙ ap (vector_size fmt-at c.values_here-n.result) c.meta_at-m.ensures.meta_is
-    in
-    let inside : 8 + (cursor-at.offset + c.vector_size-at.result) ≤ length page-at =
-    let n = ap (λ (x : ℕ). vector_size fmt-at x meta-here) c.values_here-n.ensures in
-    let whole = (shown c.in-Fine.is).whole in
-    ends_inside page-at part_at cursor-at.offset c.vector_size-at.result (lent_is (8 + cursor-at.offset) page-at) c.loop-v.invariant.2 (omega (arith, whole, n, size_is))
-    in
-    omega (arith, inside)
+meta_at-m-requires c = (vector-shown (checked (goal.at.meta_at-m-requires c).After-check_vector) c.in_ok-check_vector.was).room
 
 pub loop-v-preserved : goal.loop-v-preserved
 loop-v-preserved c =
-    let page-at : List ℕ = c.args.page.now in
-    let fmt-at : Format = format_of c.args.kind in
-    let cursor-at : Cursor = let l = c.loop-v in record { vector = l.v; offset = l.at; left = l.left } in
-    let part_at : List ℕ = lent (8 + cursor-at.offset) page-at in
-    let meta-here : Meta = meta_at fmt-at part_at in
-    let size-at : ℕ = c.size_of-size.result in
-    let rows-here : Rows = vector_rows fmt-at size-at cursor-at c.read_u32-offset.result meta-here part_at in
-    let rows_behind : ℕ → ℕ → Rows =
-    λ n k. vectors-left fmt-at page-at size-at c.vectors_in-many.result (cursor-at.vector + 1) (cursor-at.offset + k) (cursor-at.left - n)
-    in
-    let turn : (n k : ℕ) → n ≡ here size-at cursor-at → k ≡ vector_size fmt-at n meta-here
-    → verdict (vectors_rows fmt-at (2 ^ s_of page-at) (start page-at) (offsets_of page-at) (body_of page-at)) ≡ verdict (rows-here then rows_behind n k) =
-    λ n k en ek. let l = c.loop-v in
-    vector-turn fmt-at page-at part_at size-at c.vectors_in-many.result l.v l.at l.left c.read_u32-offset.result n k _
-    c.loop-v-test.true (lent_is (8 + l.at) page-at) c.read_u32-offset.ensures en ek l.invariant.3
-    in
-    let shown : c.check_vector.result ≡ Fine → Passed fmt-at (here size-at cursor-at) meta-here part_at =
-    λ f. (vector-fine fmt-at size-at cursor-at c.read_u32-offset.result meta-here part_at
-    (check_fine c.check_vector.result c.check_vector.ensures f)).1
-    in
-    let size_is : c.vector_size-at.result ≡ vector_size fmt-at c.values_here-n.result meta-here =
-    c.vector_size-at.ensures ∙ ap (vector_size fmt-at c.values_here-n.result) c.meta_at-m.ensures.meta_is
-    in
-    let inside : 8 + (cursor-at.offset + c.vector_size-at.result) ≤ length page-at =
-    let n = ap (λ (x : ℕ). vector_size fmt-at x meta-here) c.values_here-n.ensures in
-    let whole = (shown c.in-Fine.is).whole in
-    ends_inside page-at part_at cursor-at.offset c.vector_size-at.result (lent_is (8 + cursor-at.offset) page-at) c.loop-v.invariant.2 (omega (arith, whole, n, size_is))
-    in
-    let behind = turn c.values_here-n.result c.vector_size-at.result c.values_here-n.ensures size_is in
-    (omega arith, omega arith, inside, continues c.check_vector.result _ c.check_vector.ensures _ _ c.in-Fine.is behind)
+    let n = c.values_here-n in
+    let k = c.vector_size-at in
+    let size = k.ensures ∙ ap (vector_size (format_of c.args.kind) n.result) c.meta_at-m.ensures.meta_is in
+    let here = checked (goal.at.loop-v-preserved c).After-check_vector in
+    let ok = c.in_ok-check_vector.was in
+    (c.loop-v.invariant.0, vector-inside here ok n.result k.result n.ensures size, vector-next here ok n.result k.result n.ensures size)
 
 pub returns-then-at-page : goal.returns-then-at-page
 returns-then-at-page c =
     let a = c.args in
     let l = c.loop-v in
     c.refuses.ensures
-    ∙ no14 (format_of a.kind) a.page.now c.size_of-size.result c.vectors_in-many.result l.v l.at l.left _ c.loop-v-test.false l.invariant.2 l.invariant.3 c.if-at-page.true
+    ∙ no14 (format_of a.kind) a.page.now c.size_of-size.result c.vectors_in-many.result l.v l.at l.left _ c.loop-v-test.false l.invariant.1 l.invariant.2 c.if-at-page.true
 
 pub returns : goal.returns
 returns c =
     let a = c.args in
     let l = c.loop-v in
-    ends (format_of a.kind) a.page.now c.size_of-size.result c.vectors_in-many.result l.v l.at l.left _ c.loop-v-test.false l.invariant.2 l.invariant.3 c.if-at-page.false
+    ends (format_of a.kind) a.page.now c.size_of-size.result c.vectors_in-many.result l.v l.at l.left _ c.loop-v-test.false l.invariant.1 l.invariant.2 c.if-at-page.false

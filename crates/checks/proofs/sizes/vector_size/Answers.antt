@@ -1,32 +1,20 @@
 -- `sizes::vector_size` meets its contract: a vector's bytes can be counted. Assumes nothing.
 use mathlib.Core.Path.{ap, ap₂, ◌∙◌}
-use Prim.Native.Nat.{ℕ, ◌+◌, ◌*◌, ◌≤◌}
+use Prim.Native.Nat.{ℕ, ◌+◌, ◌*◌}
 use native.Mathlib.Omega.{arith}
 use Rattle.rules.specs.Kind.{meta_bytes, word_bytes}
-use Rattle.checks.specs.Forms.{format_of}
-use Rattle.checks.proofs.Bounds.{small}
+use Rattle.rules.specs.Coded.{format_of}
+use Rattle.checks.proofs.Bounds.{few-listed}
 use Rattle.checks.proofs.sizes.vector_size.Goals as goal
 
 pub overflow_mul-result : goal.overflow_mul-result
-overflow_mul-result c =
-    let few : c.args.listed * (2 + c.value_bytes-word.result) ≤ 65535 * 10 =
-    small c.args.listed (2 + c.value_bytes-word.result) {c = 65535} {d = 10} (omega arith) (omega arith)
-    in
-    omega (arith, few)
+overflow_mul-result c = omega (arith, few-listed c.args.listed c.value_bytes-word.result (omega arith) (omega arith))
 
 pub overflow_add-result-2 : goal.overflow_add-result-2
-overflow_add-result-2 c =
-    let few : c.args.listed * (2 + c.value_bytes-word.result) ≤ 65535 * 10 =
-    small c.args.listed (2 + c.value_bytes-word.result) {c = 65535} {d = 10} (omega arith) (omega arith)
-    in
-    omega (arith, few)
+overflow_add-result-2 c = omega (arith, few-listed c.args.listed c.value_bytes-word.result (omega arith) (omega arith))
 
 pub overflow_add-result-3 : goal.overflow_add-result-3
-overflow_add-result-3 c =
-    let few : c.args.listed * (2 + c.value_bytes-word.result) ≤ 65535 * 10 =
-    small c.args.listed (2 + c.value_bytes-word.result) {c = 65535} {d = 10} (omega arith) (omega arith)
-    in
-    omega (arith, few)
+overflow_add-result-3 c = omega (arith, few-listed c.args.listed c.value_bytes-word.result (omega arith) (omega arith))
 
 pub returns : goal.returns
 returns c =

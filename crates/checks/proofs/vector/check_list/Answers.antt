@@ -10,7 +10,8 @@ use Rattle.rules.specs.Page as page
 use Rattle.rules.specs.Verdict.{verdict}
 use Rattle.rules.specs.Kind.{meta_bytes}
 use Rattle.rules.specs.Read.{positions_rows}
-use Rattle.checks.specs.Forms.{format_of, as_meta, no_position}
+use Rattle.rules.specs.Coded.{format_of}
+use Rattle.checks.specs.Forms.{as_meta, no_position}
 use Rattle.checks.proofs.Bounds.{positions-fit}
 use Rattle.checks.proofs.Turns.{list_is}
 use Rattle.checks.proofs.vector.check_list.Goals as goal

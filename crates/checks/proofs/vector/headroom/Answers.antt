@@ -5,7 +5,7 @@ use native.Mathlib.Omega.{arith}
 use lib.Dec.{ltb}
 use Rattle.rules.specs.Kind.{word}
 use Rattle.rules.proofs.Fields.{double}
-use Rattle.checks.specs.Forms.{format_of}
+use Rattle.rules.specs.Coded.{format_of}
 use Rattle.checks.proofs.Sums.{room-low, room-high}
 use Rattle.checks.proofs.vector.headroom.Goals as goal
 

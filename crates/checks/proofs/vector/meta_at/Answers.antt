@@ -11,9 +11,10 @@ unfolding meta_at
 returns c =
     let a = c.args in
     let bs = a.part.now in
-    let w = c.wide-width.ensures.0 ∙ ap (λ (x : ℕ). get_or bs (4 + x) 0) c.value_bytes-word.ensures.0 in
+    let w = c.from-width.ensures ∙ ap (λ (x : ℕ). get_or bs (4 + x) 0) c.value_bytes-word.ensures.0 in
+    let l = c.from-listed.ensures ∙ c.read.ensures in
     record {
-      meta_is = λ i. record { pair = record { exponent = get_or bs 0 0; factor = get_or bs 1 0 }; listed = c.read_u16-listed.ensures i; frame = c.frame_at-frame.ensures.0 i; width = w i };
+      meta_is = λ i. record { pair = record { exponent = get_or bs 0 0; factor = get_or bs 1 0 }; listed = l i; frame = c.frame_at-frame.ensures.0 i; width = w i };
       listed = omega arith;
       frame = c.frame_at-frame.ensures.1;
       width = omega arith;
