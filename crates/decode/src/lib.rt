@@ -1,4 +1,4 @@
-// One vector of a page to its values, both kinds: its fields are unpacked into the lent part of the output, each is turned in place, and
+// One vector of a page to its values, for both kinds: its fields are unpacked into the lent part of the output, each is turned in place, and
 // the listed exceptions are put.
 #![tactic(auto)]
 

@@ -10,19 +10,19 @@ use lib.Seq.{drop-length}
 use Rattle.digits.proofs.Lists.{lent, lent_is}
 
 -- dropping no more than there is drops the same
-drop-least : (k : ℕ) (l : List ℕ) → drop (min k (length l)) l ≡ drop k l
+drop-least : (k : ℕ) (l : List ℕ) → drop (min (length l) k) l ≡ drop k l
 drop-least k l = elim (dec_le k (length l)) [ yes h ↦ inside h | no h ↦ past (lt_of_not-le h) ]
   where
-    inside : k ≤ length l → drop (min k (length l)) l ≡ drop k l
-    inside h = let e : min k (length l) ≡ k = omega arith in ap (λ (x : ℕ). drop x l) e
+    inside : k ≤ length l → drop (min (length l) k) l ≡ drop k l
+    inside h = let e : min (length l) k ≡ k = omega arith in ap (λ (x : ℕ). drop x l) e
 
-    past : length l < k → drop (min k (length l)) l ≡ drop k l
+    past : length l < k → drop (min (length l) k) l ≡ drop k l
     past h =
-        let e : min k (length l) ≡ length l = omega arith in
+        let e : min (length l) k ≡ length l = omega arith in
         ap (λ (x : ℕ). drop x l) e ∙ drop-length l ∙ sym (drop_of_length-le l {i = k} (omega arith))
 
 -- lent from its stored offset on, or from the page's end if that comes first
-pub part_is : (from start : ℕ) (page : List ℕ) → start ≡ min (8 + from) (length page) → lent start page ≡ drop (8 + from) page
+pub part_is : (from start : ℕ) (page : List ℕ) → start ≡ min (length page) (8 + from) → lent start page ≡ drop (8 + from) page
 part_is from start page e = lent_is start page ∙ ap (λ (x : ℕ). drop x page) e ∙ drop-least (8 + from) page
 
 -- a part that holds something begins inside the page

@@ -17,14 +17,14 @@ overflow_mul-number c = let n = number-fine c.args.number c.args.page.now c.requ
 pub overflow_add-number : goal.overflow_add-number
 overflow_add-number c = let n = number-fine c.args.number c.args.page.now c.requires in omega (arith, n.there, c.vectors_in-many.ensures.0)
 
-pub read_u32-from-requires : goal.read_u32-from-requires
-read_u32-from-requires c = let n = number-fine c.args.number c.args.page.now c.requires in omega (arith, n.there, n.head.offsets)
+pub read-from-requires : goal.read-from-requires
+read-from-requires c = let n = number-fine c.args.number c.args.page.now c.requires in omega (arith, n.there, n.head.offsets)
 
 pub overflow_add-number-2 : goal.overflow_add-number-2
 overflow_add-number-2 c = let n = number-fine c.args.number c.args.page.now c.requires in omega (arith, n.there, c.vectors_in-many.ensures.0)
 
-pub read_u32-requires : goal.read_u32-requires
-read_u32-requires c = let n = number-fine c.args.number c.args.page.now c.requires in omega (arith, c.if-number-many.true, c.vectors_in-many.ensures.0, n.head.offsets)
+pub read-requires : goal.read-requires
+read-requires c = let n = number-fine c.args.number c.args.page.now c.requires in omega (arith, c.if-number-many.true, c.vectors_in-many.ensures.0, n.head.offsets)
 
 pub overflow_sub-to : goal.overflow_sub-to
 overflow_sub-to c = let n = number-fine c.args.number c.args.page.now c.requires in omega (arith, n.head.eight)
@@ -36,11 +36,11 @@ returns-then-number-many c =
     let n = number-fine v page c.requires in
     let behind : suc v < vectors_of page = omega (arith, c.if-number-many.true, c.vectors_in-many.ensures.0) in
     let e : 12 + 4 * v ≡ 8 + 4 * suc v = omega arith in
-    (span_is v page _ (c.read_u32-from.ensures ∙ sym (span_from v page n.there)) (c.read_u32.ensures ∙ ap (λ (x : ℕ). number (take 4 (drop x page))) e ∙ sym (span_to v page behind)), omega arith)
+    (span_is v page _ (c.read-from.ensures ∙ sym (span_from v page n.there)) (c.read.ensures ∙ ap (λ (x : ℕ). number (take 4 (drop x page))) e ∙ sym (span_to v page behind)), omega arith)
 
 pub returns-else-number-many : goal.returns-else-number-many
 returns-else-number-many c =
     let v = c.args.number in
     let page = c.args.page.now in
     let n = number-fine v page c.requires in
-    (span_is v page _ (c.read_u32-from.ensures ∙ sym (span_from v page n.there)) (sym (span_last v page (omega (arith, c.if-number-many.false, c.vectors_in-many.ensures.0)))), omega arith)
+    (span_is v page _ (c.read-from.ensures ∙ sym (span_from v page n.there)) (sym (span_last v page (omega (arith, c.if-number-many.false, c.vectors_in-many.ensures.0)))), omega arith)
