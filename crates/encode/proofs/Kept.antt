@@ -1,19 +1,12 @@
 -- Records that were kept: one more, and what then stands at each place. Assumes nothing.
-use mathlib.Core.Path.{◌≡◌, refl, ap, ◌∙◌}
-use mathlib.Core.List.{List, [], ◌∷◌}
-use Prim.Native.Nat.{ℕ, zero, suc, ◌≤◌}
-use native.Mathlib.Nat.{le_of_suc-le-suc, not-suc-le-zero}
+use mathlib.Core.Path.{◌≡◌, ap, ◌∙◌}
+use mathlib.Core.List.{List}
+use Prim.Native.Nat.{ℕ}
 use native.Mathlib.Omega.{arith}
-use lib.ListN.{length, set, length-set}
+use lib.ListN.{set, length-set}
 use lib.Seq.{get_or-set_same, get_or-set_other}
 use Rattle.encode.specs.Seen.{Seen}
 use Rattle.encode.specs.Records.{RecordedAt}
-
--- where there is no such place, nothing is kept
-pub set_past : {A : Type 0} (l : List A) (i : ℕ) (a : A) → length l ≤ i → set l i a ≡ l
-set_past [] i a h = refl
-set_past (x ∷ l) zero a h = absurd (not-suc-le-zero h)
-set_past {A} (x ∷ l) (suc i) a h = ap (λ (t : List A). x ∷ t) (set_past l i a (le_of_suc-le-suc h))
 
 module _ {A : Type 0} (f : A → Seen) (l : List A) (i : ℕ) (a : A) where
   pub recorded_here : (x : Seen) → f a ≡ x → RecordedAt f (set l i a) i x

@@ -1,5 +1,5 @@
 -- What the proofs of several functions share.
-pub mod Words
+pub mod OneMore
 pub mod Steps
 pub mod Extremes
 pub mod Record

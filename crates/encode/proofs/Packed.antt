@@ -1,6 +1,6 @@
 -- The packed fields of a vector, put one after the other. Assumes nothing.
-use mathlib.Core.Path.{◌≡◌, refl, sym, ap, ap₂, ◌∙◌, subst}
-use mathlib.Core.List.{List, [], ◌∷◌, map}
+use mathlib.Core.Path.{◌≡◌, sym, ap, ap₂, ◌∙◌, subst}
+use mathlib.Core.List.{List, [], ◌∷◌}
 use mathlib.Core.Option.{Option, none}
 use Prim.Native.Nat.{ℕ, zero, suc, ◌+◌, ◌*◌, ◌^◌, ◌≤◌, ◌<◌}
 use native.Mathlib.Nat.{not-suc-le-zero, le_of_suc-le-suc, le_trans}
@@ -11,29 +11,31 @@ use lib.IntN.{ℤ, pos, nat_abs, ◌-ℤ◌}
 use lib.Signed.{le_z, ◌≤ℤ◌}
 use lib.Pow.{pow_pos}
 use lib.Ieee.{Format, size}
+use Rattle.std.specs.Prelude as std
+use Rattle.std.specs.Option.{unwrap_or}
+use mir.Syntax.{w64}
 use mir.Val.{to_z, of_z, SFits}
 use mir.ValLaws.{to_z-of_z}
+use Rattle.std.proofs.lemmas.List.{get_or-map}
 use Rattle.digits.specs.Digits.{number, Below, pack, packed_size}
 use Rattle.digits.specs.Lists.{Each}
 use Rattle.digits.proofs.Lists.{each_below}
 use Rattle.digits.proofs.Fields.{Packing, packing_start, packing_free, packing_room, packing_next, packing_end, start_fits}
-use Rattle.rules.specs.Kind.{word, word_bits}
+use Rattle.rules.specs.Kind.{word_bits}
 use Rattle.rules.specs.Decimal.{Pair, tried}
 use Rattle.rules.specs.Vector.{tries, the_stand_in, filled, or_else, least, fields_of, width_of}
 use Rattle.rules.proofs.Order.{AtMost, least-below, width-holds, width-fewest}
 use Rattle.rules.proofs.Vectors.{length_fields}
 use Rattle.rules.proofs.Encoded.{small_word, length-filled, fields-below}
+use Rattle.decimal.specs.Turn.{as_try}
 use Rattle.encode.specs.Vectors.{Short, fields_in}
+use Rattle.encode.proofs.OneMore.{or_stand-in}
+use Rattle.encode.proofs.Steps.{NumberAt}
 
 each_get : {A : Type 0} (P : A → Type 0) (xs : List A) (i : ℕ) (d : A) → Each P xs → i < length xs → P (get_or xs i d)
 each_get P [] i d e h = absurd (not-suc-le-zero h)
 each_get P (x ∷ xs) zero d e h = e.0
 each_get P (x ∷ xs) (suc i) d e h = each_get P xs i d e.1 (le_of_suc-le-suc h)
-
-get_or-map : {A B : Type 0} (f : A → B) (l : List A) (i : ℕ) (d : A) (e : B) → i < length l → get_or (map f l) i e ≡ f (get_or l i d)
-get_or-map f [] i d e h = absurd (not-suc-le-zero h)
-get_or-map f (x ∷ l) zero d e h = refl
-get_or-map f (x ∷ l) (suc i) d e h = get_or-map f l i d e (le_of_suc-le-suc h)
 
 module _ (fmt : Format) (p : Pair) (vs : List ℕ) where
   abbrev ts : List (Option ℤ)
@@ -53,36 +55,39 @@ module _ (fmt : Format) (p : Pair) (vs : List ℕ) where
 
   -- ---- the whole number at place i, and its field
 
-  module _ (i : ℕ) (h : i < length vs) where
-    number_at : get_or zs i (pos 0) ≡ or_else (the_stand_in ts) (tried fmt p (get_or vs i 0))
+  module _ (i v : ℕ) (a : NumberAt vs i v) where
+    number_at : get_or zs i (pos 0) ≡ or_else (the_stand_in ts) (tried fmt p v)
     number_at =
         let n : length ts ≡ length vs = length-map vs (tried fmt p) in
-        get_or-map (or_else (the_stand_in ts)) ts i none (pos 0) (omega (arith, n)) ∙ ap (or_else (the_stand_in ts)) (get_or-map (tried fmt p) vs i 0 none h)
+        let h = a.inside in
+        get_or-map (or_else (the_stand_in ts)) ts i none (pos 0) (omega (arith, n)) ∙ ap (or_else (the_stand_in ts)) (get_or-map (tried fmt p) vs i 0 none h ∙ ap (tried fmt p) a.is)
 
-    field_at : get_or fs i 0 ≡ nat_abs (or_else (the_stand_in ts) (tried fmt p (get_or vs i 0)) -ℤ least zs)
+    field_at : get_or fs i 0 ≡ nat_abs (or_else (the_stand_in ts) (tried fmt p v) -ℤ least zs)
     unfolding fields_of
     field_at =
         let n = length-filled fmt p vs in
+        let h = a.inside in
         get_or-map (λ (z : ℤ). nat_abs (z -ℤ least zs)) zs i (pos 0) 0 (omega (arith, n)) ∙ ap (λ (z : ℤ). nat_abs (z -ℤ least zs)) number_at
 
-    above_least : AtMost (least zs) (or_else (the_stand_in ts) (tried fmt p (get_or vs i 0)))
+    above_least : AtMost (least zs) (or_else (the_stand_in ts) (tried fmt p v))
     above_least =
         let n = length-filled fmt p vs in
+        let h = a.inside in
         subst (AtMost (least zs)) number_at (each_get (AtMost (least zs)) zs i (pos 0) (least-below zs) (omega (arith, n)))
 
-    -- as the code has them: gone through words
-    module _ (stand frame z : ℤ) (t : Option ℤ) (hs : stand ≡ the_stand_in ts) (hf : frame ≡ least zs) (ht : t ≡ tried fmt p (get_or vs i 0))
-        (hz : z ≡ or_else (to_z (word fmt) (of_z (word fmt) stand)) t) (fd : SFits (word fmt) stand) (ff : SFits (word fmt) frame) (fz : SFits (word fmt) z) where
-      frame_is : to_z (word fmt) (of_z (word fmt) frame) ≡ least zs
-      frame_is = to_z-of_z (word fmt) frame ff ∙ hf
+    -- as the code has them: gone through words of 64 bits
+    module _ (stand frame z : ℤ) (t : std.Option ℤ) (hs : stand ≡ the_stand_in ts) (hf : frame ≡ least zs) (ht : as_try t ≡ tried fmt p v)
+        (hz : z ≡ unwrap_or t (to_z w64 (of_z w64 stand))) (fd : SFits w64 stand) (ff : SFits w64 frame) (fz : SFits w64 z) where
+      frame_is : to_z w64 (of_z w64 frame) ≡ least zs
+      frame_is = to_z-of_z w64 frame ff ∙ hf
 
-      number_is : to_z (word fmt) (of_z (word fmt) z) ≡ or_else (the_stand_in ts) (tried fmt p (get_or vs i 0))
-      number_is = to_z-of_z (word fmt) z fz ∙ hz ∙ ap₂ or_else (to_z-of_z (word fmt) stand fd ∙ hs) ht
+      number_is : to_z w64 (of_z w64 z) ≡ or_else (the_stand_in ts) (tried fmt p v)
+      number_is = to_z-of_z w64 z fz ∙ hz ∙ or_stand-in t (to_z w64 (of_z w64 stand)) ∙ ap₂ or_else (to_z-of_z w64 stand fd ∙ hs) ht
 
-      pub field_asks : to_z (word fmt) (of_z (word fmt) frame) ≤ℤ to_z (word fmt) (of_z (word fmt) z)
+      pub field_asks : to_z w64 (of_z w64 frame) ≤ℤ to_z w64 (of_z w64 z)
       field_asks = record { le = subst T (sym (ap₂ le_z frame_is number_is)) above_least }
 
-      pub field_gives : (r : ℕ) → r ≡ nat_abs (to_z (word fmt) (of_z (word fmt) z) -ℤ to_z (word fmt) (of_z (word fmt) frame)) → r ≡ get_or fs i 0
+      pub field_gives : (r : ℕ) → r ≡ nat_abs (to_z w64 (of_z w64 z) -ℤ to_z w64 (of_z w64 frame)) → r ≡ get_or fs i 0
       field_gives r e = e ∙ ap₂ (λ (x y : ℤ). nat_abs (x -ℤ y)) number_is frame_is ∙ sym field_at
 
   -- ---- one field put after the other

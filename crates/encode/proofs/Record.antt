@@ -1,11 +1,12 @@
 -- The record of a vector in progress: piece after piece it is the record of all values so far, and it tells the vector's width and size.
 -- Assumes nothing.
-use mathlib.Core.Path.{◌≡◌, refl, sym, ap, ap₂, ◌∙◌}
+use mathlib.Core.Path.{◌≡◌, refl, sym, ap, ap₂, ◌∙◌, subst}
 use mathlib.Core.Bool.{Bool, true, false, cond}
 use mathlib.Core.List.{List, [], ◌∷◌, ◌++◌}
 use mathlib.Core.Option.{Option, none, some}
-use Prim.Native.Nat.{ℕ, suc, ◌+◌, ◌*◌, ◌≤◌, ◌<◌}
+use Prim.Native.Nat.{ℕ, suc, ◌+◌, ◌*◌, ◌^◌, ◌≤◌, ◌<◌}
 use native.Mathlib.Nat.{add_assoc}
+use lib.Pow.{pow_pos}
 use native.Mathlib.Omega.{arith}
 use lib.ListN.{length, length-append, length-map}
 use lib.Dec.{ltb}
@@ -13,11 +14,13 @@ use borrow.Author.Tests.{ltb-true, ltb-false}
 use lib.IntN.{ℤ}
 use lib.Ieee.{Format, size}
 use Rattle.digits.specs.Digits.{packed_size}
-use Rattle.rules.specs.Kind.{meta_bytes, word_bytes}
+use Rattle.rules.specs.Kind.{meta_bytes, word_bits, word_bytes}
 use Rattle.rules.specs.Decimal.{Pair, tried}
 use Rattle.rules.specs.Vector.{tries, the_stand_in, filled, lesser, least, fields_of, width_of, places, encoded, raw_of}
 use Rattle.rules.specs.Page.{size_of}
-use Rattle.rules.proofs.Encoded.{places-few, length-filled}
+use Rattle.rules.proofs.Encoded.{places-few, length-filled, turned-below}
+use Rattle.rules.proofs.Order.{greatest-lt}
+use Rattle.rules.proofs.Tries.{tried-some}
 use Rattle.encode.specs.Vectors.{Short, fields_in}
 use Rattle.encode.specs.Seen.{Seen, nothing, greater, most, seen_of, see, see_all, see_more, Kept, width_seen, size_seen}
 use Rattle.encode.proofs.Extremes.{lowest, highest, lowest_append, highest_append, lowest_is, highest_is, most-field, least-most}
@@ -124,12 +127,13 @@ module _ (fmt : Format) (p : Pair) (vs : List ℕ) where
   long-tries : length ts ≡ length vs
   long-tries = length-map vs (tried fmt p)
 
-  pub seen-kept : Short (length vs) → Kept (seen_of ts)
+  pub seen-kept : Short (length vs) → Kept fmt (seen_of ts)
   unfolding seen_of
   seen-kept h = record {
     short = let e = long-tries in omega (arith, e);
     few = places-few 0 ts;
     ordered = record { le = least-most (filled ts) };
+    narrow = subst (λ (n : ℕ). n < 2 ^ word_bits fmt) (sym (most-field (filled ts))) (greatest-lt (2 ^ word_bits fmt) (fields_of (filled ts)) (pow_pos (word_bits fmt)) (turned-below fmt p (tried fmt p) (tried-some fmt p) vs));
   }
 
   pub seen-width : width_seen (seen_of ts) ≡ width_of (fields_in fmt p vs)

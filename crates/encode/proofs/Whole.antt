@@ -8,7 +8,8 @@ use native.Mathlib.Omega.{arith}
 use lib.ListN.{length, take, drop, length-append, length-map, length-take, length-drop}
 use lib.IntN.{ℤ}
 use lib.Ieee.{Format}
-use mir.Val.{of_z}
+use lib.Pow.{pow_pos}
+use mir.Val.{of_z, hbits, SFits}
 use borrow.Rule.Slice.PartMut.{put_mid}
 use Rattle.digits.specs.Digits.{les, pack, packed_size}
 use Rattle.digits.specs.Lists.{over}
@@ -20,6 +21,9 @@ use Rattle.rules.specs.Kind.{word, word_bytes, meta_bytes}
 use Rattle.rules.specs.Decimal.{Pair, tried}
 use Rattle.rules.specs.Vector.{tries, the_stand_in, filled, least, width_of, places, picks, encoded, raw_of}
 use Rattle.rules.specs.Page.{metadata, payload, vector_bytes, size_of}
+use Rattle.rules.proofs.Order.{least-one}
+use Rattle.rules.proofs.Tries.{Held, tried-some}
+use Rattle.rules.proofs.Vectors.{turns-filled}
 use Rattle.rules.proofs.Encoded.{picks-paired}
 use Rattle.rules.proofs.Pages.{length-metadata}
 use Rattle.encode.specs.Vectors.{Short, fields_in, bytes_of, meta_with}
@@ -35,8 +39,8 @@ module _ (fmt : Format) (p : Pair) (vs : List ℕ) (s : Seen) (e : s ≡ seen_of
   abbrev fs : List ℕ
   fs = fields_in fmt p vs
 
-  pub kept_is : Short (length vs) → Kept s
-  kept_is h = subst Kept (sym e) (seen-kept fmt p vs h)
+  pub kept_is : Short (length vs) → Kept fmt s
+  kept_is h = subst (Kept fmt) (sym e) (seen-kept fmt p vs h)
 
   pub count-is : s.count ≡ length vs
   unfolding seen_of
@@ -53,6 +57,12 @@ module _ (fmt : Format) (p : Pair) (vs : List ℕ) (s : Seen) (e : s ≡ seen_of
   pub smallest-is : s.smallest ≡ least (filled ts)
   unfolding seen_of
   smallest-is = ap (λ (x : Seen). x.smallest) e
+
+  -- the kind's word holds it, as it holds every whole number of a value that is no exception
+  pub smallest-held : SFits (word fmt) s.smallest
+  smallest-held = record {
+    sfits = subst (Held fmt) (sym smallest-is) (least-one (Held fmt) (filled ts) (pow_pos (hbits (word fmt))) (turns-filled fmt p (tried fmt p) (tried-some fmt p) vs));
+  }
 
   pub width_is : width_seen s ≡ width_of fs
   width_is = ap width_seen e ∙ seen-width fmt p vs
@@ -113,9 +123,6 @@ module _ (fmt : Format) (p : Pair) (vs : List ℕ) (s : Seen) (e : s ≡ seen_of
         ∙ ap (λ (w : ℕ). over (metadata fmt (meta_with p (length (places 0 ts)) (of_z (word fmt) (least (filled ts))) w)) d) (ew ∙ width_is)
 
     module _ (at : ℕ) (at-is : at ≡ packed_end fmt s) where
-      pub packed_start : meta_bytes fmt ≤ at
-      packed_start = omega (arith, at-is)
-
       module _ (o : List ℕ) (is : o ≡ over meta_part d) where
         meta_length : length o ≡ length d
         meta_length = ap length is ∙ length_over meta_part d (omega (arith, long-meta, meta_room))
@@ -123,38 +130,36 @@ module _ (fmt : Format) (p : Pair) (vs : List ℕ) (s : Seen) (e : s ≡ seen_of
         pub packed-end : at ≤ length o
         packed-end = omega (arith, at-is, fits, meta_length)
 
-        packed-size : at - meta_bytes fmt ≡ packed_size (length vs) (width_seen s)
-        packed-size = ap (λ (k : ℕ). k - meta_bytes fmt) (at-is ∙ ap (λ (c : ℕ). meta_bytes fmt + packed_size c (width_seen s)) count-is) ∙ omega arith
+        -- the packed fields start where the metadata ends
+        module _ (front : ℕ) (front_is : front ≡ meta_bytes fmt) where
+          packed-size : at - front ≡ packed_size (length vs) (width_seen s)
+          packed-size = ap₂ (λ (a f : ℕ). a - f) (at-is ∙ ap (λ (c : ℕ). meta_bytes fmt + packed_size c (width_seen s)) count-is) front_is ∙ omega arith
 
-        pub packed-room : length (take (at - meta_bytes fmt) (drop (meta_bytes fmt) o)) ≡ packed_size (length vs) (width_seen s)
-        packed-room = length-take (at - meta_bytes fmt) (drop (meta_bytes fmt) o) ∙ omega (arith, packed-size, packed-end, length-drop (meta_bytes fmt) o)
+          pub packed-room : length (take (at - front) (drop front o)) ≡ packed_size (length vs) (width_seen s)
+          packed-room = length-take (at - front) (drop front o) ∙ omega (arith, packed-size, packed-end, length-drop front o)
 
-        pub packed-put : (last : List ℕ) (width : ℕ) → width ≡ width_seen s → last ≡ pack width fs → put_mid (meta_bytes fmt) (at - meta_bytes fmt) o last ≡ over (meta_part ++ packed_part) d
-        unfolding packed_part
-        packed-put last width ew el =
-            stage_mid meta_part packed_part d o (meta_bytes fmt) is long-meta last (at - meta_bytes fmt) (long-packed ∙ sym packed-size) (el ∙ ap (λ (w : ℕ). pack w fs) (ew ∙ width_is))
+          pub packed-put : (last : List ℕ) (width : ℕ) → width ≡ width_seen s → last ≡ pack width fs → put_mid front (at - front) o last ≡ over (meta_part ++ packed_part) d
+          unfolding packed_part
+          packed-put last width ew el =
+              stage_mid meta_part packed_part d o front is (long-meta ∙ sym front_is) last (at - front) (long-packed ∙ sym packed-size) (el ∙ ap (λ (w : ℕ). pack w fs) (ew ∙ width_is))
 
-      module _ (end : ℕ) (end_is : end ≡ size_seen fmt s) where
-        pub lists-start : at ≤ end
-        lists-start = omega (arith, at-is, end_is)
+      module _ (end : ℕ) (end_is : end ≡ size_seen fmt s) (o : List ℕ) (is : o ≡ over (meta_part ++ packed_part) d) where
+        two-length : length o ≡ length d
+        two-length = ap length is ∙ length_over (meta_part ++ packed_part) d (omega (arith, long-two, fits))
 
-        lists-size : end - at ≡ s.listed * (2 + word_bytes fmt)
-        lists-size = omega (arith, end_is, at-is)
+        pub lists-end : end ≤ length o
+        lists-end = omega (arith, end_is, fits, two-length)
 
-        module _ (o : List ℕ) (is : o ≡ over (meta_part ++ packed_part) d) where
-          two-length : length o ≡ length d
-          two-length = ap length is ∙ length_over (meta_part ++ packed_part) d (omega (arith, long-two, fits))
+        -- a bit pattern takes k bytes
+        module _ (k : ℕ) (k_is : k ≡ word_bytes fmt) where
+          lists-size : end - at ≡ s.listed * (2 + k)
+          lists-size = ap₂ (λ (a b : ℕ). a - b) end_is at-is ∙ omega arith ∙ ap (λ (n : ℕ). s.listed * (2 + n)) (sym k_is)
 
-          pub lists-end : end ≤ length o
-          lists-end = omega (arith, end_is, fits, two-length)
-
-          pub lists-room : length (take (end - at) (drop at o)) ≡ s.listed * (2 + word_bytes fmt)
-          lists-room = length-take (end - at) (drop at o) ∙ omega (arith, lists-size, lists-start, lists-end, length-drop at o)
-
-          pub vector-put : (last : List ℕ) → last ≡ les 2 (places 0 ts) ++ les (word_bytes fmt) (picks ts vs) → put_mid at (end - at) o last ≡ over (bytes_of fmt p vs) d
+          pub vector-put : (last : List ℕ) → last ≡ les 2 (places 0 ts) ++ les k (picks ts vs) → put_mid at (end - at) o last ≡ over (bytes_of fmt p vs) d
           unfolding lists_part
           vector-put last el =
-              stage_mid (meta_part ++ packed_part) lists_part d o at is (long-two ∙ sym at-is) last (end - at) (long-lists ∙ sym lists-size) el
+              stage_mid (meta_part ++ packed_part) lists_part d o at is (long-two ∙ sym at-is) last (end - at)
+              (long-lists ∙ ap (λ (n : ℕ). s.listed * (2 + n)) (sym k_is) ∙ sym lists-size) (el ∙ ap (λ (n : ℕ). les 2 (places 0 ts) ++ les n (picks ts vs)) k_is)
               ∙ ap (λ (b : List ℕ). over b d) (sym bytes_are)
 
 -- the size of a vector's bytes is the rules'

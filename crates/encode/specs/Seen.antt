@@ -1,16 +1,15 @@
 -- The record of a vector in progress: what a scan keeps of the values seen so far, one value at a time, and what it comes to. The code's
--- structs of both kinds stand for it. Assumes nothing.
-use Rattle.std.specs.Prelude.{ℕ, ◌+◌, ◌*◌, ◌≤◌, cond, List, [], ◌∷◌, length, ltb, ℤ, pos, ◌-ℤ◌, nat_abs, ◌≤ℤ◌}
+-- struct stands for it. Assumes nothing.
+use Rattle.std.specs.Prelude.{ℕ, ◌+◌, ◌*◌, ◌≤◌, ◌<◌, ◌^◌, cond, List, [], ◌∷◌, length, ltb, ℤ, pos, ◌-ℤ◌, nat_abs, ◌≤ℤ◌}
 use Rattle.std.proofs.Math.Option.{Option, none, some}
 use Rattle.std.specs.Int.Signed.{le_z}
 use Rattle.std.specs.Float.{Format}
 use Rattle.std.specs.Float.Ieee.{size}
 use Rattle.digits.specs.Digits.{packed_size}
-use Rattle.rules.specs.Kind.{word_bytes, meta_bytes}
+use Rattle.rules.specs.Kind.{word_bits, word_bytes, meta_bytes}
 use Rattle.rules.specs.Vector.{the_stand_in, filled, lesser, least, places}
 use Rattle.encode.specs.Vectors.{Short}
-use Rattle.encode.specs.declared.scan.Seen32.{Seen32}
-use Rattle.encode.specs.declared.scan.Seen64.{Seen64}
+use Rattle.encode.specs.declared.scan.Seen as code
 
 -- counts of values and of exceptions; the stand-in, the smallest and the largest whole number, all three 0 while only exceptions were seen
 pub record Seen : Type 0 where
@@ -23,11 +22,8 @@ pub record Seen : Type 0 where
 abbrev pub nothing : Seen
 nothing = record { count = 0; listed = 0; stand = pos 0; smallest = pos 0; largest = pos 0 }
 
-abbrev pub as_seen64 : Seen64 → Seen
-as_seen64 r = record { count = r.count; listed = r.listed; stand = r.stand_in; smallest = r.smallest; largest = r.largest }
-
-abbrev pub as_seen32 : Seen32 → Seen
-as_seen32 r = record { count = r.count; listed = r.listed; stand = r.stand_in; smallest = r.smallest; largest = r.largest }
+abbrev pub as_seen : code.Seen → Seen
+as_seen r = record { count = r.count; listed = r.listed; stand = r.stand_in; smallest = r.smallest; largest = r.largest }
 
 -- ---- what it is of some values: `least` has a twin here, since the rules know the largest field but not the largest whole number
 
@@ -65,11 +61,12 @@ see_more s ts = see_all (begun s (the_stand_in ts)) ts
 
 -- ---- what it says of the vector's size
 
--- what every record of a vector keeps
-pub record Kept (s : Seen) : Type 0 where
+-- what every record of a vector keeps; the kind's word holds the largest field
+pub record Kept (fmt : Format) (s : Seen) : Type 0 where
   pub short : Short s.count
   pub few : s.listed ≤ s.count
   pub ordered : s.smallest ≤ℤ s.largest
+  pub narrow : nat_abs (s.largest -ℤ s.smallest) < 2 ^ word_bits fmt
 
 abbrev pub width_seen : Seen → ℕ
 width_seen s = size (nat_abs (s.largest -ℤ s.smallest))

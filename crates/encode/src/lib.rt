@@ -1,6 +1,4 @@
-// One vector of values to its bytes, for both kinds: scanned, then written straight into the lent output.
-//
-// Each kind's functions stand beside their twins; what is proved of them is proved over the format or the width (proofs/).
+// One vector of values to its bytes: scanned, then written straight into the lent output.
 #![tactic(auto)]
 
 pub mod scan; // scan.rt: the record of a vector in progress, and what it says of the vector's size

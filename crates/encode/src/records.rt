@@ -1,78 +1,48 @@
 // The records of a page's first vectors, kept from measuring, so that writing need not scan those vectors again.
 ghost use Rattle.std.specs.Prelude.{◌≡◌, length, set};
-ghost use Rattle.std.specs.Float.{binary32, binary64};
+ghost use Rattle.rules.specs.Coded.{format_of, as_pair};
 ghost use Rattle.rules.specs.Vector.{tries};
-ghost use Rattle.decimal.specs.Scale.{pair32, pair64, Scales32, Scales64};
 ghost use Rattle.encode.specs.Vectors.{Short};
-ghost use Rattle.encode.specs.Seen.{as_seen32, as_seen64, seen_of};
+ghost use Rattle.encode.specs.Seen.{as_seen, seen_of};
 ghost use Rattle.encode.specs.Records.{RecordedAt};
 
-use crate::scan::{Seen32, Seen64, nothing32, nothing64, scan32, scan64};
-use decimal::tables::{Scale32, Scale64};
+use crate::scan::Seen;
+use decimal::scale::Scale;
+use decimal::value::Value;
 
-// As many as a full column has of 1,024 values each. In shorter vectors it has more: those behind are scanned twice.
+// As many as a full column has of 1,024 values each. In shorter vectors it has more: those behind are scanned twice. An array and no `Vec`,
+// since the library takes no memory.
 #[derive(Clone, Copy)]
-pub struct Records64 {
-    pub of: [Seen64; 16],
+pub struct Records {
+    pub of: [Seen; 16],
 }
 
-#[derive(Clone, Copy)]
-pub struct Records32 {
-    pub of: [Seen32; 16],
-}
-
-pub fn no_records64() -> Records64 {
-    Records64 {
-        of: [nothing64(); 16],
+impl Records {
+    pub fn new() -> Records {
+        Records {
+            of: [Seen::new(); 16],
+        }
     }
-}
 
-pub fn no_records32() -> Records32 {
-    Records32 {
-        of: [nothing32(); 16],
+    // With the record of vector i, if there is a place for it.
+    pub fn with(self, i: usize, seen: Seen) -> Records
+        ensures { result.of ≡ set self.of i seen }
+    {
+        let mut of = self.of;
+        if i < 16 {
+            of[i] = seen;
+        }
+        Records { of }
     }
-}
 
-// With the record of vector i, if there is a place for it.
-pub fn keep64(records: Records64, i: usize, seen: Seen64) -> Records64
-    ensures { result.of ≡ set records.of i seen }
-{
-    let mut of = records.of;
-    if i < 16 {
-        of[i] = seen;
+    // The record of vector i, which has these values: as it was kept, or from a scan.
+    pub fn at<V: Value>(self, i: usize, values: &[V], scale: &Scale<V>) -> Seen
+        requires { Short (length values.now) × RecordedAt as_seen self.of i (seen_of (tries (format_of V.KIND) (as_pair scale.now.pair) (V.as_numbers values.now))) }
+        ensures { as_seen result ≡ seen_of (tries (format_of V.KIND) (as_pair scale.now.pair) (V.as_numbers values.now)) }
+    {
+        if i < 16 {
+            return self.of[i];
+        }
+        Seen::of(values, scale)
     }
-    Records64 { of }
-}
-
-pub fn keep32(records: Records32, i: usize, seen: Seen32) -> Records32
-    ensures { result.of ≡ set records.of i seen }
-{
-    let mut of = records.of;
-    if i < 16 {
-        of[i] = seen;
-    }
-    Records32 { of }
-}
-
-// The record of vector i, which has these values: as it was kept, or from a scan.
-pub fn record64(records: Records64, i: usize, values: &[u64], scale: Scale64) -> Seen64
-    requires { Scales64 scale × Short (length values.now) × RecordedAt as_seen64 records.of i (seen_of (tries binary64 (pair64 scale) values.now)) }
-    ensures { as_seen64 result ≡ seen_of (tries binary64 (pair64 scale) values.now) }
-{
-    if i < 16 {
-        let of = records.of;
-        return of[i];
-    }
-    scan64(values, scale)
-}
-
-pub fn record32(records: Records32, i: usize, values: &[u32], scale: Scale32) -> Seen32
-    requires { Scales32 scale × Short (length values.now) × RecordedAt as_seen32 records.of i (seen_of (tries binary32 (pair32 scale) values.now)) }
-    ensures { as_seen32 result ≡ seen_of (tries binary32 (pair32 scale) values.now) }
-{
-    if i < 16 {
-        let of = records.of;
-        return of[i];
-    }
-    scan32(values, scale)
 }

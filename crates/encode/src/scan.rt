@@ -1,21 +1,20 @@
 // The record of a vector in progress, kept by value, so that a vector's values may come in pieces; and what it says of the vector's size.
-ghost use Rattle.std.specs.Prelude.{◌≡◌, [], ◌∷◌, ◌+◌, ◌^◌, ◌≤◌, length};
-ghost use Rattle.std.specs.Float.{binary32, binary64};
-ghost use Rattle.rules.specs.Vector.{tries, the_stand_in, lesser};
-ghost use Rattle.decimal.specs.Scale.{pair32, pair64, Scales32, Scales64};
-ghost use Rattle.decimal.specs.Turn.{as_try32, as_try64};
+ghost use Rattle.std.specs.Prelude.{◌≡◌, [], ◌∷◌, ◌+◌, ◌*◌, ◌^◌, ◌≤◌, length};
+ghost use Rattle.rules.specs.Coded.{format_of, as_pair};
+ghost use Rattle.rules.specs.Vector.{tries, the_stand_in};
+ghost use Rattle.decimal.specs.Turn.{as_try};
 ghost use Rattle.encode.specs.Vectors.{Short};
-ghost use Rattle.encode.specs.Seen.{as_seen32, as_seen64, nothing, greater, seen_of, see, begun, see_more, Kept, width_seen, packed_end, size_seen};
+ghost use Rattle.encode.specs.Seen.{as_seen, nothing, seen_of, see, begun, see_more, Kept, width_seen, packed_end, size_seen};
 
-use bits::numbers::{width32, width64};
-use decimal::signed::{field32, field64};
-use decimal::tables::{Scale32, Scale64};
-use decimal::whole::{Turned32, Turned64, whole32, whole64};
+use decimal::scale::Scale;
+use decimal::signed::field;
+use decimal::value::Value;
+use decimal::whole::whole;
 
 // Counts of values and of exceptions seen; the stand-in, and the smallest and the largest whole number. The list with stand-ins begins with
 // the stand-in, so these two start there and pass over the exceptions.
 #[derive(Clone, Copy)]
-pub struct Seen64 {
+pub struct Seen {
     pub count: usize,
     pub listed: usize,
     pub stand_in: i64,
@@ -23,350 +22,136 @@ pub struct Seen64 {
     pub largest: i64,
 }
 
-#[derive(Clone, Copy)]
-pub struct Seen32 {
-    pub count: usize,
-    pub listed: usize,
-    pub stand_in: i32,
-    pub smallest: i32,
-    pub largest: i32,
-}
-
-// The record of no values.
-pub fn nothing64() -> Seen64
-    ensures { as_seen64 result ≡ nothing }
+// The whole number of the first value that is no exception, or 0 if all are. A loop that yields it by `break`, as document 01 asks of the form.
+pub fn stand_in<V: Value>(values: &[V], scale: &Scale<V>) -> i64
+    ensures { result ≡ the_stand_in (tries (format_of V.KIND) (as_pair scale.now.pair) (V.as_numbers values.now)) }
 {
-    Seen64 {
-        count: 0,
-        listed: 0,
-        stand_in: 0,
-        smallest: 0,
-        largest: 0,
-    }
-}
-
-pub fn nothing32() -> Seen32
-    ensures { as_seen32 result ≡ nothing }
-{
-    Seen32 {
-        count: 0,
-        listed: 0,
-        stand_in: 0,
-        smallest: 0,
-        largest: 0,
-    }
-}
-
-fn lesser64(a: i64, b: i64) -> i64
-    ensures { result ≡ lesser a b }
-{
-    if a <= b { a } else { b }
-}
-
-fn lesser32(a: i32, b: i32) -> i32
-    ensures { result ≡ lesser a b }
-{
-    if a <= b { a } else { b }
-}
-
-fn greater64(a: i64, b: i64) -> i64
-    ensures { result ≡ greater a b }
-{
-    if a <= b { b } else { a }
-}
-
-fn greater32(a: i32, b: i32) -> i32
-    ensures { result ≡ greater a b }
-{
-    if a <= b { b } else { a }
-}
-
-// The whole number of the first value that is no exception, or 0 if all are.
-pub fn stand_in64(values: &[u64], scale: Scale64) -> i64
-    requires { Scales64 scale }
-    ensures { result ≡ the_stand_in (tries binary64 (pair64 scale) values.now) }
-{
-    let mut i: usize = 0;
-    let stand_in: i64 = loop {
-        if i == values.len() {
+    let mut rest = values;
+    let stand_in = loop {
+        let Some((value, behind)) = rest.split_first() else {
             break 0;
-        }
-        let turned = whole64(values[i], scale);
-        if let Turned64::Whole(z) = turned {
+        };
+        if let Some(z) = whole(*value, scale) {
             break z; // the first that is no exception
         }
-        i += 1;
+        rest = behind;
     };
     stand_in
 }
 
-pub fn stand_in32(values: &[u32], scale: Scale32) -> i32
-    requires { Scales32 scale }
-    ensures { result ≡ the_stand_in (tries binary32 (pair32 scale) values.now) }
-{
-    let mut i: usize = 0;
-    let stand_in: i32 = loop {
-        if i == values.len() {
-            break 0;
-        }
-        let turned = whole32(values[i], scale);
-        if let Turned32::Whole(z) = turned {
-            break z;
-        }
-        i += 1;
-    };
-    stand_in
-}
-
-// The record before the next values are seen: where only exceptions came so far, the stand-in is theirs.
-fn begin64(seen: Seen64, values: &[u64], scale: Scale64) -> Seen64
-    requires { Scales64 scale }
-    ensures { as_seen64 result ≡ begun (as_seen64 seen) (the_stand_in (tries binary64 (pair64 scale) values.now)) }
-{
-    let count = seen.count;
-    let listed = seen.listed;
-    if listed < count {
-        return seen;
-    }
-    let first = stand_in64(values, scale);
-    Seen64 {
-        count: count,
-        listed: listed,
-        stand_in: first,
-        smallest: first,
-        largest: first,
-    }
-}
-
-fn begin32(seen: Seen32, values: &[u32], scale: Scale32) -> Seen32
-    requires { Scales32 scale }
-    ensures { as_seen32 result ≡ begun (as_seen32 seen) (the_stand_in (tries binary32 (pair32 scale) values.now)) }
-{
-    let count = seen.count;
-    let listed = seen.listed;
-    if listed < count {
-        return seen;
-    }
-    let first = stand_in32(values, scale);
-    Seen32 {
-        count: count,
-        listed: listed,
-        stand_in: first,
-        smallest: first,
-        largest: first,
-    }
-}
-
-// The record with one value more.
-fn see64(seen: Seen64, turned: Turned64) -> Seen64
-    requires { (seen.listed ≤ seen.count) × Short seen.count }
-    ensures { as_seen64 result ≡ see (as_seen64 seen) (as_try64 turned) }
-{
-    let count = seen.count;
-    let listed = seen.listed;
-    let first = seen.stand_in;
-    let smallest = seen.smallest;
-    let largest = seen.largest;
-    match turned {
-        Turned64::Exception => Seen64 {
-            count: count + 1,
-            listed: listed + 1, // and nothing else changes
-            stand_in: first,
-            smallest: smallest,
-            largest: largest,
-        },
-        Turned64::Whole(z) => Seen64 {
-            count: count + 1,
-            listed: listed,
-            stand_in: first,
-            smallest: lesser64(smallest, z),
-            largest: greater64(largest, z),
-        },
-    }
-}
-
-fn see32(seen: Seen32, turned: Turned32) -> Seen32
-    requires { (seen.listed ≤ seen.count) × Short seen.count }
-    ensures { as_seen32 result ≡ see (as_seen32 seen) (as_try32 turned) }
-{
-    let count = seen.count;
-    let listed = seen.listed;
-    let first = seen.stand_in;
-    let smallest = seen.smallest;
-    let largest = seen.largest;
-    match turned {
-        Turned32::Exception => Seen32 {
-            count: count + 1,
-            listed: listed + 1,
-            stand_in: first,
-            smallest: smallest,
-            largest: largest,
-        },
-        Turned32::Whole(z) => Seen32 {
-            count: count + 1,
-            listed: listed,
-            stand_in: first,
-            smallest: lesser32(smallest, z),
-            largest: greater32(largest, z),
-        },
-    }
-}
-
-// The record with one value more, which may be the first that has a whole number. Who looks at values one by one tries each of them once:
-// a stand-in is not looked for ahead, as it is for a piece.
-pub fn see_next64(seen: Seen64, turned: Turned64) -> Seen64
-    requires { (seen.listed ≤ seen.count) × Short seen.count }
-    ensures { as_seen64 result ≡ see_more (as_seen64 seen) (as_try64 turned ∷ []) }
-{
-    let count = seen.count;
-    let listed = seen.listed;
-    if listed < count {
-        return see64(seen, turned);
-    }
-    match turned {
-        Turned64::Exception => Seen64 {
-            count: count + 1,
-            listed: listed + 1, // and so it has no stand-in yet
+impl Seen {
+    // The record of no values.
+    pub fn new() -> Seen
+        ensures { as_seen result ≡ nothing }
+    {
+        Seen {
+            count: 0,
+            listed: 0,
             stand_in: 0,
             smallest: 0,
             largest: 0,
-        },
-        Turned64::Whole(z) => Seen64 {
-            count: count + 1,
-            listed: listed,
-            stand_in: z, // the first that has one
-            smallest: z,
-            largest: z,
-        },
+        }
     }
-}
 
-pub fn see_next32(seen: Seen32, turned: Turned32) -> Seen32
-    requires { (seen.listed ≤ seen.count) × Short seen.count }
-    ensures { as_seen32 result ≡ see_more (as_seen32 seen) (as_try32 turned ∷ []) }
-{
-    let count = seen.count;
-    let listed = seen.listed;
-    if listed < count {
-        return see32(seen, turned);
+    // The record of a whole vector.
+    pub fn of<V: Value>(values: &[V], scale: &Scale<V>) -> Seen
+        requires { Short (length values.now) }
+        ensures { as_seen result ≡ seen_of (tries (format_of V.KIND) (as_pair scale.now.pair) (V.as_numbers values.now)) }
+    {
+        Seen::new().with_more(values, scale)
     }
-    match turned {
-        Turned32::Exception => Seen32 {
-            count: count + 1,
-            listed: listed + 1,
-            stand_in: 0,
-            smallest: 0,
-            largest: 0,
-        },
-        Turned32::Whole(z) => Seen32 {
-            count: count + 1,
-            listed: listed,
-            stand_in: z,
-            smallest: z,
-            largest: z,
-        },
+
+    // The record with a piece more.
+    pub fn with_more<V: Value>(self, values: &[V], scale: &Scale<V>) -> Seen
+        requires { (self.listed ≤ self.count) × Short (self.count + length values.now) }
+        ensures { as_seen result ≡ see_more (as_seen self) (tries (format_of V.KIND) (as_pair scale.now.pair) (V.as_numbers values.now)) }
+    {
+        let mut seen = self.begun(values, scale);
+        for value in values {
+            seen = seen.with(whole(*value, scale));
+        }
+        seen
     }
-}
 
-// The record with a piece more.
-pub fn see_more64(seen: Seen64, values: &[u64], scale: Scale64) -> Seen64
-    requires { Scales64 scale × (seen.listed ≤ seen.count) × Short (seen.count + length values.now) }
-    ensures { as_seen64 result ≡ see_more (as_seen64 seen) (tries binary64 (pair64 scale) values.now) }
-{
-    let mut found = begin64(seen, values, scale);
-    let mut i: usize = 0;
-    while i < values.len() {
-        let turned = whole64(values[i], scale);
-        found = see64(found, turned);
-        i += 1;
+    // The record before the next values are seen: where only exceptions came so far, the stand-in is theirs.
+    fn begun<V: Value>(self, values: &[V], scale: &Scale<V>) -> Seen
+        ensures { as_seen result ≡ begun (as_seen self) (the_stand_in (tries (format_of V.KIND) (as_pair scale.now.pair) (V.as_numbers values.now))) }
+    {
+        if self.listed < self.count {
+            return self;
+        }
+        let first = stand_in(values, scale);
+        Seen {
+            stand_in: first,
+            smallest: first,
+            largest: first,
+            ..self
+        }
     }
-    found
-}
 
-pub fn see_more32(seen: Seen32, values: &[u32], scale: Scale32) -> Seen32
-    requires { Scales32 scale × (seen.listed ≤ seen.count) × Short (seen.count + length values.now) }
-    ensures { as_seen32 result ≡ see_more (as_seen32 seen) (tries binary32 (pair32 scale) values.now) }
-{
-    let mut found = begin32(seen, values, scale);
-    let mut i: usize = 0;
-    while i < values.len() {
-        let turned = whole32(values[i], scale);
-        found = see32(found, turned);
-        i += 1;
+    // The record with one value more: of an exception, the counts alone change.
+    fn with(self, turned: Option<i64>) -> Seen
+        requires { (self.listed ≤ self.count) × Short self.count }
+        ensures { as_seen result ≡ see (as_seen self) (as_try turned) }
+    {
+        match turned {
+            None => Seen {
+                count: self.count + 1,
+                listed: self.listed + 1,
+                ..self
+            },
+            Some(z) => Seen {
+                count: self.count + 1,
+                smallest: self.smallest.min(z),
+                largest: self.largest.max(z),
+                ..self
+            },
+        }
     }
-    found
-}
 
-// The record of a whole vector.
-pub fn scan64(values: &[u64], scale: Scale64) -> Seen64
-    requires { Scales64 scale × Short (length values.now) }
-    ensures { as_seen64 result ≡ seen_of (tries binary64 (pair64 scale) values.now) }
-{
-    see_more64(nothing64(), values, scale)
-}
+    // The record with one value more, which may be the first that has a whole number. Who looks at values one by one tries each of them
+    // once: a stand-in is not looked for ahead, as it is for a piece.
+    pub fn with_next(self, turned: Option<i64>) -> Seen
+        requires { (self.listed ≤ self.count) × Short self.count }
+        ensures { as_seen result ≡ see_more (as_seen self) (as_try turned ∷ []) }
+    {
+        if self.listed < self.count {
+            return self.with(turned);
+        }
+        let first = turned.unwrap_or(0);
+        Seen {
+            stand_in: first,
+            smallest: first,
+            largest: first,
+            ..self
+        }
+        .with(turned)
+    }
 
-pub fn scan32(values: &[u32], scale: Scale32) -> Seen32
-    requires { Scales32 scale × Short (length values.now) }
-    ensures { as_seen32 result ≡ seen_of (tries binary32 (pair32 scale) values.now) }
-{
-    see_more32(nothing32(), values, scale)
-}
+    // ---- the size of the vector
 
-// ---- the size of the vector
+    // The fewest bits that hold the largest field, a word of the kind.
+    pub fn width<V: Value>(self) -> u8
+        requires { Kept (format_of V.KIND) (as_seen self) }
+        ensures { (result ≡ width_seen (as_seen self)) × (result ≤ 8 * V.BYTES) × (result ≤ 64) }
+    {
+        let largest = V::from_number(field(self.largest, self.smallest));
+        largest.width()
+    }
 
-// The fewest bits that hold the largest field.
-pub fn width_of64(seen: Seen64) -> u8
-    requires { Kept (as_seen64 seen) }
-    ensures { (result ≡ width_seen (as_seen64 seen)) × (result ≤ 64) }
-{
-    let smallest = seen.smallest;
-    let largest = seen.largest;
-    width64(field64(largest, smallest))
-}
+    // Where the packed fields end: behind the metadata, which is a word and 5 bytes.
+    pub fn packed_end<V: Value>(self) -> usize
+        requires { Kept (format_of V.KIND) (as_seen self) }
+        ensures { (result ≡ packed_end (format_of V.KIND) (as_seen self)) × (result ≤ 2 ^ 32) }
+    {
+        5 + V::BYTES + (self.count * (self.width::<V>() as usize) + 7) / 8
+    }
 
-pub fn width_of32(seen: Seen32) -> u8
-    requires { Kept (as_seen32 seen) }
-    ensures { (result ≡ width_seen (as_seen32 seen)) × (result ≤ 32) }
-{
-    let smallest = seen.smallest;
-    let largest = seen.largest;
-    width32(field32(largest, smallest))
-}
-
-// Where the packed fields end: behind 13 bytes of metadata, or 9.
-pub fn packed_end64(seen: Seen64) -> usize
-    requires { Kept (as_seen64 seen) }
-    ensures { (result ≡ packed_end binary64 (as_seen64 seen)) × (result ≤ 2 ^ 32) }
-{
-    let width = width_of64(seen) as usize;
-    let count = seen.count;
-    13 + (count * width + 7) / 8
-}
-
-pub fn packed_end32(seen: Seen32) -> usize
-    requires { Kept (as_seen32 seen) }
-    ensures { (result ≡ packed_end binary32 (as_seen32 seen)) × (result ≤ 2 ^ 32) }
-{
-    let width = width_of32(seen) as usize;
-    let count = seen.count;
-    9 + (count * width + 7) / 8
-}
-
-// Where the vector ends, which is its size: an exception takes 2 bytes and its word.
-pub fn vector_size64(seen: Seen64) -> usize
-    requires { Kept (as_seen64 seen) }
-    ensures { result ≡ size_seen binary64 (as_seen64 seen) }
-{
-    let from = packed_end64(seen);
-    let listed = seen.listed;
-    from + listed * 10
-}
-
-pub fn vector_size32(seen: Seen32) -> usize
-    requires { Kept (as_seen32 seen) }
-    ensures { result ≡ size_seen binary32 (as_seen32 seen) }
-{
-    let from = packed_end32(seen);
-    let listed = seen.listed;
-    from + listed * 6
+    // Where the vector ends, which is its size: an exception takes 2 bytes and its word.
+    pub fn vector_size<V: Value>(self) -> usize
+        requires { Kept (format_of V.KIND) (as_seen self) }
+        ensures { result ≡ size_seen (format_of V.KIND) (as_seen self) }
+    {
+        self.packed_end::<V>() + self.listed * (2 + V::BYTES)
+    }
 }

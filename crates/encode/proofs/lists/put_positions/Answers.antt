@@ -1,0 +1,30 @@
+-- `lists::put_positions` meets its contract. Assumes nothing.
+use Rattle.rules.specs.Coded.{format_of}
+use Rattle.encode.proofs.Steps.{word_at, words-end}
+use Rattle.encode.proofs.Listed.{listed-is, positions-next, positions-none, listing_start, listing_room, listing_next, listing_end}
+use Rattle.encode.proofs.lists.put_positions.Goals as goal
+
+pub loop-position-init : goal.loop-position-init
+loop-position-init g c = listing_start _ _ c.requires.1
+
+pub put_entry-at-requires : goal.put_entry-at-requires
+put_entry-at-requires g c =
+    let l = c.loop-position in
+    let x = c.index-values-position in
+    let a = word_at g.met.V.Word.laws c.args.values.now l.position x.result c.loop-position-test.true x.is in
+    let e = listed-is (format_of g.V.Value.KIND) _ _ c.whole.result c.is_none.result c.whole.ensures c.is_none.ensures in
+    listing_room l.invariant _ (positions-next (format_of g.V.Value.KIND) _ _ l.position _ a _ e)
+
+pub loop-position-preserved : goal.loop-position-preserved
+loop-position-preserved g c =
+    let l = c.loop-position in
+    let x = c.index-values-position in
+    let u = c.put_entry-at in
+    let a = word_at g.met.V.Word.laws c.args.values.now l.position x.result c.loop-position-test.true x.is in
+    let e = listed-is (format_of g.V.Value.KIND) _ _ c.whole.result c.is_none.result c.whole.ensures c.is_none.ensures in
+    listing_next l.invariant _ (positions-next (format_of g.V.Value.KIND) _ _ l.position _ a _ e) u.new.out u.result u.ensures.reach u.ensures.put
+
+pub returns : goal.returns
+returns g c =
+    let l = c.loop-position in
+    listing_end l.invariant (positions-none (format_of g.V.Value.KIND) _ _ l.position (words-end g.met.V.Word.laws c.args.values.now l.position c.loop-position-test.false))
