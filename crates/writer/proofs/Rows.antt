@@ -3,44 +3,46 @@
 use mathlib.Core.Path.{◌≡◌, refl, sym, ap, ap₂, ◌∙◌, subst}
 use mathlib.Core.List.{List, ◌∷◌}
 use Prim.Native.Nat.{ℕ, ◌+◌, ◌-◌, ◌*◌, ◌/◌, ◌^◌, ◌≤◌, ◌<◌}
-use native.Mathlib.Nat.{le_trans}
 use native.Mathlib.Numerals.{add-one}
 use native.Mathlib.Omega.{arith}
-use lib.ListN.{length, get_or, drop}
-use lib.Dec.{lit≤}
-use lib.Pow.{pow_pos}
-use lib.Ieee.{Format, binary32, binary64}
+use lib.ListN.{length, drop}
+use lib.Ieee.{Format}
 use borrow.Author.Tests.{lt-ltb, le-ltb, ltb-false, eq-eqb, ne_eqb}
 use Rattle.digits.specs.Lists.{over}
-use Rattle.rules.specs.Kind.{min_s, max_s, max_values, word_bytes, meta_bytes}
+use Rattle.rules.specs.Kind.{min_s, max_s, max_values}
 use Rattle.rules.specs.Decimal.{Pair}
 use Rattle.rules.specs.Page.{vectors, page_of}
 use Rattle.rules.specs.Verdict.{Verdict, fine, refuse, first, verdict, row, the_page, done_with, ◌below◌}
-use Rattle.rules.specs.Write.{pairs_of, pairs_rows, settings_rows, page_size, bound, write_rows, write_of}
+use Rattle.rules.specs.Write.{pairs_of, pairs_rows, settings_rows, page_size, write_rows, write_of}
 use Rattle.rules.specs.Calls.{measured, measure_of, Measured, Written}
 use Rattle.rules.specs.declared.Answer.{Answer}
-use Rattle.rules.specs.declared.Exponent.{Exponent}
-use Rattle.rules.specs.declared.Factor.{Factor}
+use Rattle.checks.specs.declared.check.Refusal.{Refusal}
+use Rattle.rules.specs.declared.Pair as code
 use Rattle.rules.proofs.Rows.{row_fine}
 use Rattle.rules.proofs.Settings.{pairs_next, pairs_none, settings-fine}
-use Rattle.checks.specs.Forms.{as_verdict, pair_rows}
-use Rattle.checks.specs.declared.check.Check.TheVariants.{No}
-use Rattle.checks.proofs.Bounds.{small, few-vectors}
-use Rattle.checks.proofs.Refusals.{pairs_turn, refused-answer, refused-after}
-use Rattle.writer.specs.Settled.{Settled, Ready}
+use Rattle.rules.specs.Coded.{format_of, as_pair}
+use Rattle.rules.specs.declared.Kind.{Kind}
+use Rattle.checks.specs.Forms.{as_verdict, answered, pair_rows}
+use Rattle.std.specs.Prelude.{Result, Ok, Err}
+use Rattle.std.specs.Result.{IsErrAnd}
+use Rattle.std.proofs.lemmas.Result.{err_from_is_err_and}
+use Rattle.checks.proofs.Refusals.{check_fine, pairs_turn, refused-answer, refused-after}
+use Rattle.writer.specs.Settled.{EveryColumn, Settled, Ready}
+use Rattle.writer.specs.Recorded.{pair_at}
 
--- ---- 9 and 10: the pair at byte j, of vector v, and those behind it
+-- ---- 9 and 10: the pair of vector v, and those behind it
 
-pub pairs_step : (fmt : Format) (bs : List ℕ) (j v : ℕ) (e : Exponent) (f : Factor) → e.0 ≡ get_or bs j 0 → f.0 ≡ get_or bs (j + 1) 0 → j + 1 < length bs
-    → verdict (pairs_rows fmt v (pairs_of (drop j bs))) ≡ first (verdict (pair_rows fmt v e f)) (verdict (pairs_rows fmt (v + 1) (pairs_of (drop (j + 2) bs))))
-pairs_step fmt bs j v e f ee ef h =
-    let rest : List Pair = pairs_of (drop (j + 2) bs) in
-    ap (λ (ps : List Pair). verdict (pairs_rows fmt v ps)) (pairs_next bs j h ∙ ap₂ (λ (x y : ℕ). record { exponent = x; factor = y } ∷ rest) (sym ee) (sym ef))
-    ∙ pairs_turn fmt v e f rest ∙ ap (λ (k : ℕ). first (verdict (pair_rows fmt v e f)) (verdict (pairs_rows fmt k rest))) (sym (add-one v))
+pub pairs_step : (fmt : Format) (bs : List ℕ) (v : ℕ) (p : code.Pair) → as_pair p ≡ pair_at bs (2 * v) → 2 * v + 1 < length bs
+    → verdict (pairs_rows fmt v (pairs_of (drop (2 * v) bs))) ≡ first (verdict (pair_rows fmt v p)) (verdict (pairs_rows fmt (v + 1) (pairs_of (drop (2 * (v + 1)) bs))))
+pairs_step fmt bs v p e h =
+    let two : 2 * v + 2 ≡ 2 * (v + 1) = omega arith in
+    let rest : List Pair = pairs_of (drop (2 * (v + 1)) bs) in
+    ap (λ (ps : List Pair). verdict (pairs_rows fmt v ps)) (pairs_next bs (2 * v) h ∙ ap₂ (λ (x : Pair) (j : ℕ). x ∷ pairs_of (drop j bs)) (sym e) two)
+    ∙ pairs_turn fmt v p rest ∙ ap (λ (k : ℕ). first (verdict (pair_rows fmt v p)) (verdict (pairs_rows fmt k rest))) (sym (add-one v))
 
-pub pairs_stop : (fmt : Format) (bs : List ℕ) (j v : ℕ) → length bs ≤ j + 1 → fine ≡ verdict (pairs_rows fmt v (pairs_of (drop j bs)))
+pub pairs_stop : (fmt : Format) (bs : List ℕ) (v : ℕ) → length bs ≤ 2 * v + 1 → fine ≡ verdict (pairs_rows fmt v (pairs_of (drop (2 * v) bs)))
 unfolding pairs_rows
-pairs_stop fmt bs j v h = ap (λ (ps : List Pair). verdict (pairs_rows fmt v ps)) (sym (pairs_none bs j h))
+pairs_stop fmt bs v h = ap (λ (ps : List Pair). verdict (pairs_rows fmt v ps)) (sym (pairs_none bs (2 * v) h))
 
 -- ---- 5, 6, 16, then those
 
@@ -67,37 +69,20 @@ module _ (fmt : Format) (s : ℕ) (pairs vs : List ℕ) where
       unfolding settings_rows
       from9 h = rw (le-ltb s min_s low, le-ltb max_s s high, le-ltb max_values (length vs) many, eq-eqb (length pairs) (2 * vectors s (length vs)) h)
 
--- ---- a page's length is a machine number
-
-meta_small : (fmt : Format) → meta_bytes fmt ≤ 13
-meta_small binary32 = lit≤ tt
-meta_small binary64 = lit≤ tt
-
-word_small : (fmt : Format) → word_bytes fmt ≤ 8
-word_small binary32 = lit≤ tt
-word_small binary64 = lit≤ tt
-
-pub bound-small : (fmt : Format) (s n : ℕ) → n ≤ max_values → bound fmt s n < 2 ^ 32
-unfolding bound
-bound-small fmt s n h =
-    let few : vectors s n ≤ max_values = le_trans (few-vectors n (2 ^ s) (pow_pos s)) h in
-    let fronts = small (vectors s n) (4 + meta_bytes fmt) {c = max_values} {d = 17} few (omega (arith, meta_small fmt)) in
-    let words = small n (2 * word_bytes fmt + 2) {c = max_values} {d = 18} h (omega (arith, word_small fmt)) in
-    omega (arith, fronts, words)
-
--- ---- 15, of a page of n bytes
-
-pub no15 : (room n : ℕ) → room < n → refuse 15 the_page ≡ verdict (row 15 the_page (room below n))
-no15 room n h = rw (lt-ltb room n h)
-
-pub room-passes : (room n : ℕ) → n ≤ room → fine ≡ verdict (row 15 the_page (room below n))
-room-passes room n h = rw (le-ltb room n h)
-
 -- ---- the calls
 
+-- the rows of the settings, of the values that were counted
+pub rows_of : {k kind : Kind} → k ≡ kind → (n s : ℕ) (pairs : List ℕ) (r : Result Unit Refusal) → EveryColumn n (λ (vs : List ℕ). as_verdict r ≡ verdict (settings_rows (format_of k) s pairs vs))
+    → (vs : List ℕ) → length vs ≡ n → as_verdict r ≡ verdict (settings_rows (format_of kind) s pairs vs)
+rows_of e n s pairs r h vs l = h vs l ∙ ap (λ (k : Kind). verdict (settings_rows (format_of k) s pairs vs)) e
+
 -- what is settled where the settings pass
-pub settled : (fmt : Format) (s : ℕ) (pairs vs : List ℕ) → verdict (settings_rows fmt s pairs vs) ≡ fine → Settled fmt s pairs vs
-settled fmt s pairs vs ok = let i = settings-fine fmt s pairs vs ok in record { two_each = i.0; inside = i.1 }
+settings_settle : (fmt : Format) (s : ℕ) (pairs vs : List ℕ) → verdict (settings_rows fmt s pairs vs) ≡ fine → Settled fmt s pairs vs
+settings_settle fmt s pairs vs ok = let i = settings-fine fmt s pairs vs ok in record { two_each = i.0; inside = i.1 }
+
+-- a refusal that `?` handed on
+handed : (r : Result Unit Refusal) (q : Result ℕ Refusal) (a : Refusal) {x : Verdict} → as_verdict r ≡ x → r ≡ Err a → IsErrAnd q (λ b. b ≡ a) → (as_verdict (Err a) ≡ x) × (answered (Err a) ≡ answered q)
+handed r q a e f h = let p = err_from_is_err_and q h in (ap as_verdict (sym f) ∙ e, sym (ap answered p.1 ∙ ap (λ (b : Refusal). answered (Err b)) p.2))
 
 module _ (fmt : Format) (s : ℕ) (pairs vs out : List ℕ) where
   abbrev page : List ℕ
@@ -111,43 +96,53 @@ module _ (fmt : Format) (s : ℕ) (pairs vs out : List ℕ) where
   unfolding write_rows
   write_rows_lem = refl
 
-  refused : (a : Answer) → as_verdict (No a) ≡ verdict (write_rows fmt s pairs vs (length out)) → Written fmt vs s pairs out a out
+  refused : (a : Refusal) → as_verdict (Err a) ≡ verdict (write_rows fmt s pairs vs (length out)) → Written fmt vs s pairs out (answered (Err a)) out
   unfolding write_of
   refused a e = record {
     answer_is = refused-answer a (verdict (write_rows fmt s pairs vs (length out))) page e;
     output_is = refused-after a (verdict (write_rows fmt s pairs vs (length out))) page e out;
   }
 
-  pub refused-settings : (a : Answer) → as_verdict (No a) ≡ verdict (settings_rows fmt s pairs vs) → Written fmt vs s pairs out a out
-  refused-settings a e = refused a (ap (λ (v : Verdict). first v (short (length page))) e ∙ sym write_rows_lem)
+  -- the settings are refused
+  pub refused-settings : (r : Result Unit Refusal) → as_verdict r ≡ verdict (settings_rows fmt s pairs vs) → (q : Result ℕ Refusal) (a : Refusal) → r ≡ Err a → IsErrAnd q (λ b. b ≡ a) → Written fmt vs s pairs out (answered q) out
+  refused-settings r e q a f h =
+      let p = handed r q a e f h in
+      subst (λ (b : Answer). Written fmt vs s pairs out b out) p.1 (refused a (ap (λ (v : Verdict). first v (short (length page))) p.0 ∙ sym write_rows_lem))
 
   -- the settings pass, and n was measured
-  module _ (ok : verdict (settings_rows fmt s pairs vs) ≡ fine) (n : ℕ) (en : n ≡ page_size fmt s pairs vs) where
+  module _ (r₀ : Result Unit Refusal) (e₀ : as_verdict r₀ ≡ verdict (settings_rows fmt s pairs vs)) (u : Unit) (f₀ : r₀ ≡ Ok u) (n : ℕ) (en : n ≡ page_size fmt s pairs vs) where
+    ok : verdict (settings_rows fmt s pairs vs) ≡ fine
+    ok = check_fine r₀ e₀ f₀
+
     behind : verdict (write_rows fmt s pairs vs (length out)) ≡ short n
     behind = write_rows_lem ∙ ap (λ (v : Verdict). first v (short (length page))) ok ∙ ap short (sym en)
 
-    pub refused-short : (a : Answer) → as_verdict (No a) ≡ short n → Written fmt vs s pairs out a out
-    refused-short a e = refused a (e ∙ sym behind)
+    pub refused-short : (r : Result Unit Refusal) → as_verdict r ≡ short n → (q : Result ℕ Refusal) (a : Refusal) → r ≡ Err a → IsErrAnd q (λ b. b ≡ a) → Written fmt vs s pairs out (answered q) out
+    refused-short r e q a f h = let p = handed r q a e f h in subst (λ (b : Answer). Written fmt vs s pairs out b out) p.1 (refused a (p.0 ∙ sym behind))
 
-    pub ready : short n ≡ fine → Ready fmt s pairs vs out
-    ready e = record { settled = settled fmt s pairs vs ok; room = subst (λ (k : ℕ). k ≤ length out) en (ltb-false (length out) n (row_fine 15 the_page (length out below n) e)) }
+    pub ready : (r : Result Unit Refusal) → as_verdict r ≡ short n → (u : Unit) → r ≡ Ok u → Ready fmt s pairs vs out
+    ready r e u f = record {
+      settled = settings_settle fmt s pairs vs ok;
+      room = subst (λ (k : ℕ). k ≤ length out) en (ltb-false (length out) n (row_fine 15 the_page (length out below n) (check_fine r e f)));
+    }
 
-    pub written-done : short n ≡ fine → (m : ℕ) (end : List ℕ) → m ≡ length page → end ≡ over page out → Written fmt vs s pairs out (done_with m) end
+    pub written-done : (r : Result Unit Refusal) → as_verdict r ≡ short n → (u : Unit) → r ≡ Ok u → (m : ℕ) (end : List ℕ) → m ≡ length page → end ≡ over page out → Written fmt vs s pairs out (done_with m) end
     unfolding write_of
-    written-done e m end em ee = let passes : verdict (write_rows fmt s pairs vs (length out)) ≡ fine = behind ∙ e in record { answer_is = rw passes (ap done_with em); output_is = rw passes ee }
+    written-done r e u f m end em ee = let passes : verdict (write_rows fmt s pairs vs (length out)) ≡ fine = behind ∙ check_fine r e f in record { answer_is = rw passes (ap done_with em); output_is = rw passes ee }
 
 module _ (fmt : Format) (s : ℕ) (pairs vs : List ℕ) where
-  pub measured-refused : (a : Answer) → as_verdict (No a) ≡ verdict (settings_rows fmt s pairs vs) → Measured fmt vs s pairs a
+  pub measured-refused : (r : Result Unit Refusal) → as_verdict r ≡ verdict (settings_rows fmt s pairs vs) → (q : Result ℕ Refusal) (a : Refusal) → r ≡ Err a → IsErrAnd q (λ b. b ≡ a) → Measured fmt vs s pairs (answered q)
   unfolding measure_of
-  measured-refused a e = record { answer_is = ap (λ (v : Verdict). measured v (page_size fmt s pairs vs)) e }
+  measured-refused r e q a f h = let p = handed r q a e f h in record { answer_is = sym p.1 ∙ ap (λ (v : Verdict). measured v (page_size fmt s pairs vs)) p.0 }
 
-  pub measured-done : (n : ℕ) → verdict (settings_rows fmt s pairs vs) ≡ fine → n ≡ page_size fmt s pairs vs → Measured fmt vs s pairs (done_with n)
-  unfolding measure_of
-  measured-done n ok en = record { answer_is = rw ok (ap done_with en) }
+  module _ (r : Result Unit Refusal) (e : as_verdict r ≡ verdict (settings_rows fmt s pairs vs)) (u : Unit) (f : r ≡ Ok u) where
+    pub settled : Settled fmt s pairs vs
+    settled = settings_settle fmt s pairs vs (check_fine r e f)
 
--- the size and the count of vectors, as the code works them out
-pub size-is : (s power size : ℕ) → power ≡ s → size ≡ 2 ^ power → size ≡ 2 ^ s
-size-is s power size ep es = es ∙ ap (λ (x : ℕ). 2 ^ x) ep
+    pub measured-done : (n : ℕ) → n ≡ page_size fmt s pairs vs → Measured fmt vs s pairs (done_with n)
+    unfolding measure_of
+    measured-done n en = record { answer_is = rw (check_fine r e f) (ap done_with en) }
 
-pub count-is : (s n power size count : ℕ) → power ≡ s → size ≡ 2 ^ power → count ≡ (n + (size - 1)) / size → count ≡ vectors s n
-count-is s n power size count ep es ec = ec ∙ ap (λ (z : ℕ). (n + (z - 1)) / z) (es ∙ ap (λ (x : ℕ). 2 ^ x) ep)
+-- the count of vectors of m values, as the code works it out of n and the size
+pub count-is : (s m n power size count : ℕ) → m ≡ n → power ≡ s → size ≡ 2 ^ power → count ≡ (n + (size - 1)) / size → count ≡ vectors s m
+count-is s m n power size count em ep es ec = ec ∙ ap₂ (λ (k z : ℕ). (k + (z - 1)) / z) (sym em) (es ∙ ap (λ (x : ℕ). 2 ^ x) ep)

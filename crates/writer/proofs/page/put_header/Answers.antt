@@ -4,4 +4,4 @@ use Rattle.writer.proofs.Pages.{header-stored}
 use Rattle.writer.proofs.page.put_header.Goals as goal
 
 pub returns : goal.returns
-returns c = let a = c.args in c.store_u32.ensures ∙ header-stored a.s a.n a.out.now c.requires
+returns c = let a = c.args in c.store.ensures ∙ header-stored a.s a.n a.out.now c.requires
