@@ -38,8 +38,8 @@ module _ (fmt : Format) (p : Pair) (vs : List ℕ) where
     unfolding seen_of
     look_count = ap (λ (x : Seen). x.count) l.record_is ∙ length-map (take i vs) (tried fmt p) ∙ length-take i vs ∙ omega (arith, l.within)
 
-    pub look_kept : Short (length vs) → Kept s
-    look_kept h = subst Kept (sym l.record_is) (seen-kept fmt p (take i vs) (rw length-take (omega (arith, h))))
+    pub look_kept : Short (length vs) → Kept fmt s
+    look_kept h = subst (Kept fmt) (sym l.record_is) (seen-kept fmt p (take i vs) (rw length-take (omega (arith, h))))
 
     pub look_next : i < length vs → (t : Option ℤ) (r : Seen) → t ≡ tried fmt p (get_or vs i 0) → r ≡ see_more s (t ∷ []) → Looked fmt p vs (i + 1) r
     look_next h t r et er = record {

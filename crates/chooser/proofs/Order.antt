@@ -1,8 +1,8 @@
 -- The pairs in their order: what is left of them behind one, and the best of them so far. Assumes nothing.
-use mathlib.Core.Path.{◌≡◌, refl, sym, ap, ap₂, ◌∙◌, subst}
+use mathlib.Core.Path.{◌≡◌, refl, sym, ap, ◌∙◌}
 use mathlib.Core.Bool.{Bool, true, false, cond}
 use mathlib.Core.List.{List, [], ◌∷◌, ◌++◌}
-use Prim.Native.Nat.{ℕ, zero, suc, ◌+◌, ◌-◌, ◌*◌, ◌≤◌, ◌<◌, min}
+use Prim.Native.Nat.{ℕ, zero, suc, ◌+◌, ◌-◌, ◌≤◌, ◌<◌, min}
 use native.Mathlib.Nat.{lt_of_not-le}
 use native.Mathlib.Decide.{dec_le}
 use native.Mathlib.Omega.{arith}
@@ -12,41 +12,46 @@ use lib.Ieee.{Format, binary32, binary64}
 use Rattle.rules.specs.Kind.{max_exponent}
 use Rattle.rules.specs.Decimal.{Pair}
 use Rattle.rules.specs.Choose.{factors, exponents, all_pairs, size_with, first_smallest, first_pair, chosen}
+use Rattle.rules.specs.Vector.{tries}
+use Rattle.rules.specs.Coded.{as_pair}
+use Rattle.rules.specs.declared.Pair as code
 use Rattle.rules.proofs.Rows.{same-both}
-use Rattle.chooser.specs.Pairs.{behind}
+use Rattle.encode.specs.Seen.{Seen, seen_of, size_seen}
+use Rattle.encode.proofs.Record.{seen_size}
+use Rattle.chooser.specs.declared.search.Best.{Best}
 
 -- ---- from a pair on, with exponents below `top`
 
-abbrev pub from : ℕ → Pair → List Pair
+abbrev from : ℕ → Pair → List Pair
 from top p = cond (ltb p.exponent top) (factors p.exponent p.factor (suc p.exponent - p.factor) ++ exponents (suc p.exponent) (top - suc p.exponent)) []
 
-pub from_end : (top : ℕ) (p : Pair) → top ≤ p.exponent → from top p ≡ []
+from_end : (top : ℕ) (p : Pair) → top ≤ p.exponent → from top p ≡ []
 from_end top p h = rw (le-ltb p.exponent top h)
 
-module _ (top e f : ℕ) (he : e < top) where
-  abbrev this : Pair
-  this = record { exponent = e; factor = f }
+module _ (top e : ℕ) (he : e < top) where
+  abbrev with_factor : ℕ → Pair
+  with_factor f = record { exponent = e; factor = f }
 
-  here : from top this ≡ factors e f (suc e - f) ++ exponents (suc e) (top - suc e)
-  here = rw (lt-ltb e top he)
+  here : (f : ℕ) → from top (with_factor f) ≡ factors e f (suc e - f) ++ exponents (suc e) (top - suc e)
+  here f = rw (lt-ltb e top he)
 
-  next-factor : f < e → from top this ≡ this ∷ from top (record { exponent = e; factor = f + 1 })
+  next-factor : (f : ℕ) → f ≤ e → from top (with_factor f) ≡ with_factor f ∷ from top (with_factor (f + 1))
   unfolding factors
-  next-factor h =
-      let one : suc e - f ≡ suc (e - f) = omega arith in
-      let less : e - f ≡ suc e - (f + 1) = omega arith in
+  next-factor f h =
+      let one : suc e - f ≡ suc (suc e - (f + 1)) = omega arith in
       let more : suc f ≡ f + 1 = omega arith in
-      here ∙ ap (λ (n : ℕ). factors e f n ++ exponents (suc e) (top - suc e)) one
-      ∙ ap₂ (λ (g n : ℕ). this ∷ (factors e g n ++ exponents (suc e) (top - suc e))) more less
-      ∙ ap (λ (b : Bool). this ∷ cond b (factors e (f + 1) (suc e - (f + 1)) ++ exponents (suc e) (top - suc e)) []) (sym (lt-ltb e top he))
+      here f ∙ ap (λ (n : ℕ). factors e f n ++ exponents (suc e) (top - suc e)) one
+      ∙ ap (λ (g : ℕ). with_factor f ∷ (factors e g (suc e - (f + 1)) ++ exponents (suc e) (top - suc e))) more
+      ∙ ap (λ (l : List Pair). with_factor f ∷ l) (sym (here (f + 1)))
 
-  next-exponent : f ≡ e → from top this ≡ this ∷ from top (record { exponent = e + 1; factor = 0 })
+  -- behind the last factor comes the next exponent
+  next-exponent : from top (with_factor (e + 1)) ≡ from top (record { exponent = e + 1; factor = 0 })
   unfolding factors exponents
-  next-exponent h =
-      let one : suc e - f ≡ suc zero = omega (arith, h) in
+  next-exponent =
+      let none : suc e - (e + 1) ≡ zero = omega arith in
       let more : suc e ≡ e + 1 = omega arith in
-      here ∙ ap (λ (n : ℕ). factors e f n ++ exponents (suc e) (top - suc e)) one
-      ∙ ap (λ (l : List Pair). this ∷ l) (ap (λ (n : ℕ). exponents n (top - n)) more ∙ row)
+      here (e + 1) ∙ ap (λ (n : ℕ). factors e (e + 1) n ++ exponents (suc e) (top - suc e)) none
+      ∙ ap (λ (n : ℕ). exponents n (top - n)) more ∙ row
     where
       row : exponents (e + 1) (top - (e + 1)) ≡ from top (record { exponent = e + 1; factor = 0 })
       row = elim (dec_le (suc (e + 1)) top) [
@@ -56,36 +61,13 @@ module _ (top e f : ℕ) (he : e < top) where
             ap (exponents (e + 1)) none ∙ sym (from_end top (record { exponent = e + 1; factor = 0 }) (omega (arith, lt_of_not-le h))))
       ]
 
-pub from_next : (top : ℕ) (p : Pair) → p.exponent < top → p.factor ≤ p.exponent → from top p ≡ p ∷ from top (behind p)
-from_next top p he hf = elim (dec_le (suc p.factor) p.exponent) [
-  | yes h ↦ next-factor top p.exponent p.factor he h ∙ ap (λ (b : Bool). p ∷ from top (other b)) (sym (lt-ltb p.factor p.exponent h))
-  | no h ↦ (let same : p.factor ≡ p.exponent = omega (arith, hf, lt_of_not-le h) in
-      next-exponent top p.exponent p.factor he same ∙ ap (λ (b : Bool). p ∷ from top (other b)) (sym (le-ltb p.factor p.exponent (omega (arith, same)))))
-]
-  where
-    other : Bool → Pair
-    other b = cond b (record { exponent = p.exponent; factor = p.factor + 1 }) (record { exponent = p.exponent + 1; factor = 0 })
-
--- what is left gets shorter: exponents go to 18 at most
-abbrev pub weight : Pair → ℕ
-weight p = (19 - p.exponent) * 20 - p.factor
-
-module _ (p : Pair) (h : p.factor ≤ p.exponent) where
-  pub behind-inside : (behind p).factor ≤ (behind p).exponent
-  behind-inside = elim (dec_le (suc p.factor) p.exponent) [
-    | yes k ↦ rw (lt-ltb p.factor p.exponent k) (omega arith)
-    | no k ↦ rw (le-ltb p.factor p.exponent (omega (arith, lt_of_not-le k))) (omega arith)
-  ]
-
-  pub behind-lighter : p.exponent ≤ 18 → weight (behind p) < weight p
-  behind-lighter e = elim (dec_le (suc p.factor) p.exponent) [
-    | yes k ↦ rw (lt-ltb p.factor p.exponent k) (omega arith)
-    | no k ↦ rw (le-ltb p.factor p.exponent (omega (arith, lt_of_not-le k))) (omega arith)
-  ]
-
 -- ---- the best so far
 
-pub cond-ap : {A B : Type 0} (f : A → B) (t : Bool) (x y : A) → f (cond t x y) ≡ cond t (f x) (f y)
+-- the code's pair of e and f
+abbrev pair_of : ℕ → ℕ → code.Pair
+pair_of e f = record { exponent = record { 0 = e }; factor = record { 0 = f } }
+
+cond-ap : {A B : Type 0} (f : A → B) (t : Bool) (x y : A) → f (cond t x y) ≡ cond t (f x) (f y)
 cond-ap f true x y = refl
 cond-ap f false x y = refl
 
@@ -96,37 +78,54 @@ same_test b r s e = elim (dec_le (suc r) b) [
   | no h ↦ (let k = lt_of_not-le h in le-ltb r b (omega arith) ∙ sym (le-ltb s b (omega arith)))
 ]
 
--- b is the best of the pairs before p, with n bytes; the first of the smallest of all is still to be found from there on
-pub record Ahead (size : Pair → ℕ) (goal : Pair) (top : ℕ) (b : Pair) (n : ℕ) (p : Pair) : Type 0 where
-  pub inside : p.factor ≤ p.exponent
-  pub size_is : n ≡ size b
-  pub rest_is : first_smallest size b (from top p) ≡ goal
+-- `best` has the fewest bytes of the pairs before that of e and f; the first of the smallest of all is still to be found from there on
+pub record Ahead (fmt : Format) (vs : List ℕ) (best : Best) (e f : ℕ) : Type 0 where
+  pub size_is : best.size ≡ size_with fmt vs (as_pair best.pair)
+  pub rest_is : first_smallest (size_with fmt vs) (as_pair best.pair) (from (suc (max_exponent fmt)) (record { exponent = e; factor = f })) ≡ chosen fmt vs
 
-module _ (size : Pair → ℕ) (goal : Pair) (top : ℕ) (b : Pair) (n : ℕ) (p : Pair) (a : Ahead size goal top b n p) where
-  -- p was tried, and gave r
-  pub ahead_next : p.exponent < top → (r : ℕ) → min n r ≡ min n (size p) → (c : Pair) (m : ℕ) (q : Pair)
-      → c ≡ cond (ltb r n) p b → m ≡ cond (ltb r n) r n → q ≡ behind p → Ahead size goal top c m q
-  unfolding first_smallest
-  ahead_next he r e c m q ec em eq =
-      let test : ltb r n ≡ ltb (size p) (size b) = same_test n r (size p) e ∙ ap (ltb (size p)) a.size_is in
-      record {
-        inside = subst (λ (x : Pair). x.factor ≤ x.exponent) (sym eq) (behind-inside p a.inside);
-        size_is = em ∙ sized ∙ ap size (sym ec);
-        rest_is =
-            ap₂ (λ (x : Pair) (l : List Pair). first_smallest size x l) (ec ∙ ap (λ (t : Bool). cond t p b) test) (ap (from top) eq)
-            ∙ ap (first_smallest size b) (sym (from_next top p he a.inside))
-            ∙ a.rest_is;
-      }
-    where
-      sized : cond (ltb r n) r n ≡ size (cond (ltb r n) p b)
-      sized = elim (dec_le (suc r) n) [
-        | yes h ↦ (let same : r ≡ size p = omega (arith, e) in rw (lt-ltb r n h) same)
-        | no h ↦ rw (le-ltb r n (omega (arith, lt_of_not-le h))) a.size_is
-      ]
+module _ (fmt : Format) (vs : List ℕ) (best : Best) (e : ℕ) where
+  abbrev size : Pair → ℕ
+  size = size_with fmt vs
 
-  pub ahead_end : top ≤ p.exponent → b ≡ goal
+  module _ (within : e ≤ max_exponent fmt) where
+    -- q, the pair of e and f, was tried, and gave r
+    pub ahead_next : (f : ℕ) → f ≤ e → Ahead fmt vs best e f → (q : code.Pair) → q ≡ pair_of e f → (r : ℕ) → min best.size r ≡ min best.size (size (as_pair q))
+        → (new : Best) → new ≡ cond (ltb r best.size) (record { pair = pair_of e f; size = r }) best → Ahead fmt vs new e (f + 1)
+    unfolding first_smallest
+    ahead_next f hf a q eq r er new en =
+        let tried : Pair = record { exponent = e; factor = f } in
+        let is : as_pair q ≡ tried = ap as_pair eq in
+        let gave : min best.size r ≡ min best.size (size tried) = er ∙ ap (λ (x : Pair). min best.size (size x)) is in
+        let test : ltb r best.size ≡ ltb (size tried) (size (as_pair best.pair)) = same_test best.size r (size tried) gave ∙ ap (ltb (size tried)) a.size_is in
+        let pair : as_pair new.pair ≡ cond (ltb r best.size) tried (as_pair best.pair) =
+        ap (λ (x : Best). as_pair x.pair) en ∙ cond-ap (λ (x : Best). as_pair x.pair) (ltb r best.size) (record { pair = pair_of e f; size = r }) best in
+        record {
+          size_is = ap (λ (x : Best). x.size) en ∙ cond-ap (λ (x : Best). x.size) (ltb r best.size) (record { pair = pair_of e f; size = r }) best ∙ sized tried r gave a.size_is ∙ ap size (sym pair);
+          rest_is =
+              ap (λ (x : Pair). first_smallest size x (from (suc (max_exponent fmt)) (record { exponent = e; factor = f + 1 }))) (pair ∙ ap (λ (t : Bool). cond t tried (as_pair best.pair)) test)
+              ∙ ap (first_smallest size (as_pair best.pair)) (sym (next-factor (suc (max_exponent fmt)) e (omega (arith, within)) f hf))
+              ∙ a.rest_is;
+        }
+      where
+        sized : (p : Pair) (r : ℕ) → min best.size r ≡ min best.size (size p) → best.size ≡ size (as_pair best.pair) → cond (ltb r best.size) r best.size ≡ size (cond (ltb r best.size) p (as_pair best.pair))
+        sized p r er en = elim (dec_le (suc r) best.size) [
+          | yes h ↦ (let same : r ≡ size p = omega (arith, er) in rw (lt-ltb r best.size h) same)
+          | no h ↦ rw (le-ltb r best.size (omega (arith, lt_of_not-le h))) en
+        ]
+
+    -- so was each factor of e
+    pub ahead_row : (f : ℕ) → f ≡ e + 1 → Ahead fmt vs best e f → Ahead fmt vs best (e + 1) 0
+    ahead_row f ef a = record {
+      size_is = a.size_is;
+      rest_is =
+          ap (first_smallest size (as_pair best.pair))
+          (sym (ap (λ (g : ℕ). from (suc (max_exponent fmt)) (record { exponent = e; factor = g })) ef ∙ next-exponent (suc (max_exponent fmt)) e (omega (arith, within))))
+          ∙ a.rest_is;
+    }
+
+  pub ahead_end : max_exponent fmt < e → (f : ℕ) → Ahead fmt vs best e f → as_pair best.pair ≡ chosen fmt vs
   unfolding first_smallest
-  ahead_end h = ap (first_smallest size b) (sym (from_end top p h)) ∙ a.rest_is
+  ahead_end h f a = ap (first_smallest size (as_pair best.pair)) (sym (from_end (suc (max_exponent fmt)) (record { exponent = e; factor = f }) (omega (arith, h)))) ∙ a.rest_is
 
 -- ---- the first pair of all
 
@@ -135,16 +134,16 @@ unfolding factors exponents all_pairs
 all_pairs_lem binary32 = refl
 all_pairs_lem binary64 = refl
 
--- it has n bytes, and the others are to be tried
-pub ahead_start : (fmt : Format) (vs : List ℕ) (n : ℕ) → n ≡ size_with fmt vs first_pair → Ahead (size_with fmt vs) (chosen fmt vs) (suc (max_exponent fmt)) first_pair n (behind first_pair)
+-- it was scanned in full, and the others are to be tried
+pub ahead_start : (fmt : Format) (vs : List ℕ) (p : code.Pair) → p ≡ pair_of 0 0 → (s : Seen) → s ≡ seen_of (tries fmt (as_pair p) vs) → (n : ℕ) → n ≡ size_seen fmt s
+    → Ahead fmt vs (record { pair = pair_of 0 0; size = n }) 1 0
 unfolding chosen first_smallest
-ahead_start fmt vs n e =
+ahead_start fmt vs p ep s es n en =
     let size = size_with fmt vs in
     let top = suc (max_exponent fmt) in
     record {
-      inside = behind-inside first_pair (omega arith);
-      size_is = e;
+      size_is = en ∙ ap (size_seen fmt) es ∙ seen_size fmt (as_pair p) vs ∙ ap (λ (x : code.Pair). size (as_pair x)) ep;
       rest_is =
-          ap (λ (p : Pair). first_smallest size p (from top (behind first_pair))) (sym (same-both (ltb (size first_pair) (size first_pair)) first_pair))
-          ∙ ap (first_smallest size first_pair) (sym (from_next top first_pair (omega arith) (omega arith)) ∙ all_pairs_lem fmt);
+          ap (λ (p : Pair). first_smallest size p (from top (record { exponent = 1; factor = 0 }))) (sym (same-both (ltb (size first_pair) (size first_pair)) first_pair))
+          ∙ ap (first_smallest size first_pair) (sym (next-factor top 0 (omega arith) 0 (omega arith) ∙ ap (λ (l : List Pair). first_pair ∷ l) (next-exponent top 0 (omega arith))) ∙ all_pairs_lem fmt);
     }

@@ -1,5 +1,5 @@
 -- Row 31, and what the call gives behind it. Assumes nothing.
-use mathlib.Core.Path.{◌≡◌, ap, ◌∙◌}
+use mathlib.Core.Path.{◌≡◌, ap₂, ◌∙◌}
 use mathlib.Core.List.{List}
 use Prim.Native.Nat.{ℕ, ◌^◌, ◌≤◌, ◌<◌}
 use lib.ListN.{length}
@@ -22,6 +22,6 @@ module _ (fmt : Format) (vs : List ℕ) (r : Choice) where
     unfolding choose_of choose_rows
     too_many h e = record { choice_is = rw (le-ltb (length vs) 1 some, lt-ltb (2 ^ max_s) (length vs) h) e }
 
-    pub pair_found : length vs ≤ 2 ^ max_s → (p : Pair) → p ≡ chosen fmt vs → r ≡ choice fine (length vs) p → Chosen fmt vs r
+    pub pair_found : length vs ≤ 2 ^ max_s → (p : Pair) → p ≡ chosen fmt vs → (n : ℕ) → n ≡ length vs → r ≡ choice fine n p → Chosen fmt vs r
     unfolding choose_of choose_rows
-    pair_found h p ep e = record { choice_is = rw (le-ltb (length vs) 1 some, le-ltb (2 ^ max_s) (length vs) h) (e ∙ ap (choice fine (length vs)) ep) }
+    pair_found h p ep n en e = record { choice_is = rw (le-ltb (length vs) 1 some, le-ltb (2 ^ max_s) (length vs) h) (e ∙ ap₂ (choice fine) en ep) }

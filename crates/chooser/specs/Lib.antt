@@ -1,3 +1,2 @@
 -- What the contracts of this crate cite of their own.
-pub mod Pairs
 pub mod Trial
