@@ -1,3 +1,4 @@
+-- What the proofs of several functions share.
 pub mod Steps
 pub mod Conditions
 pub mod Scans

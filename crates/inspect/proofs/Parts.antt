@@ -7,7 +7,6 @@ use Rattle.digits.proofs.Lists.{lent, lent_is}
 use Rattle.rules.specs.Kind.{max_s, meta_bytes, word_bits}
 use Rattle.rules.specs.Vector.{fields, wholes}
 use Rattle.rules.specs.Page.{Meta, meta_at, raw_from}
-use Rattle.rules.specs.Write.{Allowed}
 use Rattle.rules.proofs.Reading.{Passed, Rising}
 use Rattle.rules.proofs.Tries.{Held}
 use Rattle.inspect.specs.Seen.{seen, FieldsLaid, ListsLaid}
@@ -20,12 +19,6 @@ module _ (fmt : Format) (n : ℕ) (m : Meta) (part : List ℕ) (e : m ≡ meta_a
     (front size : ℕ) (ef : front ≡ meta_bytes fmt) (es : size ≡ packed_size n m.width) where
   shown : Passed fmt n m part
   shown = subst (λ (x : Meta). Passed fmt n x part) (sym e) passed
-
-  pub packed_ends : front + size ≤ length part
-  packed_ends = omega (arith, shown.whole, ef, es)
-
-  pub pair-allowed : Allowed fmt m.pair
-  pair-allowed = record { exponent = shown.exponent; factor = shown.factor }
 
   packed-is : cut front (front + size) part ≡ take (packed_size n m.width) (drop (meta_bytes fmt) part)
   packed-is = let d : front + size - front ≡ packed_size n m.width = omega (arith, es) in ap₂ (λ (x y : ℕ). take x (drop y part)) d ef

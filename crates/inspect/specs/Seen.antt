@@ -1,19 +1,25 @@
 -- A vector as the code walks over it: its numbers, its packed part, and what stands behind that, the lists of exceptions. Assumes nothing.
-use Rattle.std.specs.Prelude.{◌≡◌, ℕ, ◌+◌, ◌*◌, ◌^◌, ◌<◌, ◌≤◌, Bool, true, false, ◌&&◌, List, [], length, drop, ℤ, ◌==◌, nat_lt, slice_index}
+use Rattle.std.specs.Prelude as std
+use Rattle.std.specs.Prelude.{◌≡◌, ℕ, suc, ◌+◌, ◌*◌, ◌^◌, ◌<◌, ◌≤◌, Some, None, Bool, true, false, ◌&&◌, List, [], ◌∷◌, length, drop, ℤ, ◌==◌, nat_lt, slice_index}
+use Rattle.std.specs.Bool.{then_some}
+use Rattle.std.specs.Coded.{×_prop, Unit-prop, le_prop}
+use Rattle.std.proofs.Math.Nat.{ℕ_set}
 use Rattle.std.proofs.Math.Option.{Option, none, some}
-use Rattle.std.specs.Float.{Format, binary32, binary64}
+use Rattle.std.specs.Float.{Format}
 use Rattle.digits.specs.Digits.{numbers, packed_size}
 use Rattle.digits.specs.Lists.{Each}
 use Rattle.rules.specs.Kind.{max_s, word_bits, word_bytes}
+use Rattle.rules.specs.Decimal.{Pair}
 use Rattle.rules.specs.Vector.{Raw, wholes, marked}
 use Rattle.rules.specs.Page.{Meta}
 use Rattle.rules.specs.Verdict.{Rows}
 use Rattle.rules.specs.Examine.{stand_in_of, first_rows}
 use Rattle.rules.proofs.Reading.{Rising}
 use Rattle.rules.proofs.Tries.{Held}
-use Rattle.decimal.specs.Scale.{pair32, pair64}
-use Rattle.inspect.specs.declared.walk.Vector32.{Vector32}
-use Rattle.inspect.specs.declared.walk.Vector64.{Vector64}
+
+-- its metadata
+abbrev pub described : Pair → ℕ → ℕ → ℕ → Meta
+described p listed frame width = record { pair = p; listed = listed; frame = frame; width = width }
 
 -- the vector of n values with metadata m, of which `packed` is the packed part, and behind it stand positions, then exceptions
 abbrev pub seen : Format → ℕ → Meta → List ℕ → List ℕ → Raw
@@ -41,30 +47,31 @@ pub record ListsLaid (fmt : Format) (n : ℕ) (m : Meta) (lists : List ℕ) : Ty
   pub room : m.listed * (2 + word_bytes fmt) ≤ length lists
   pub rising : Rising n 0 (numbers 2 m.listed lists)
 
--- the code's structs
-abbrev pub meta64 : Vector64 → Meta
-meta64 k = record { pair = pair64 k.scale; listed = k.listed; frame = k.frame; width = k.width }
+-- each of the two has one proof at most
+each-once : {A : Type 0} → (P : A → Type 0) → ((a : A) → IsProp (P a)) → (xs : List A) → IsProp (Each P xs)
+each-once P h [] = Unit-prop
+each-once P h (x ∷ xs) = ×_prop (h x) (each-once P h xs)
 
-abbrev pub meta32 : Vector32 → Meta
-meta32 k = record { pair = pair32 k.scale; listed = k.listed; frame = k.frame; width = k.width }
+rising-once : (n low : ℕ) (ps : List ℕ) → IsProp (Rising n low ps)
+rising-once n low [] = Unit-prop
+rising-once n low (p ∷ ps) = λ x y i. (le_prop x.0 y.0 i, le_prop x.1 y.1 i, rising-once n (suc p) ps x.2 y.2 i)
 
-abbrev pub seen64 : Vector64 → List ℕ → List ℕ → Raw
-seen64 k packed lists = seen binary64 k.count (meta64 k) packed lists
+pub fields-laid-once : (fmt : Format) (n : ℕ) (m : Meta) (packed : List ℕ) → IsProp (FieldsLaid fmt n m packed)
+fields-laid-once fmt n m packed x y i = record {
+  many = le_prop x.many y.many i;
+  narrow = le_prop x.narrow y.narrow i;
+  long = ℕ_set (length packed) (packed_size n m.width) x.long y.long i;
+  framed = le_prop x.framed y.framed i;
+  held = each-once (Held fmt) (λ z. le_prop) (wholes fmt (seen fmt n m packed [])) x.held y.held i;
+}
 
-abbrev pub seen32 : Vector32 → List ℕ → List ℕ → Raw
-seen32 k packed lists = seen binary32 k.count (meta32 k) packed lists
-
-abbrev pub FieldsLaid64 : Vector64 → List ℕ → Type 0
-FieldsLaid64 k packed = FieldsLaid binary64 k.count (meta64 k) packed
-
-abbrev pub FieldsLaid32 : Vector32 → List ℕ → Type 0
-FieldsLaid32 k packed = FieldsLaid binary32 k.count (meta32 k) packed
-
-abbrev pub ListsLaid64 : Vector64 → List ℕ → Type 0
-ListsLaid64 k lists = ListsLaid binary64 k.count (meta64 k) lists
-
-abbrev pub ListsLaid32 : Vector32 → List ℕ → Type 0
-ListsLaid32 k lists = ListsLaid binary32 k.count (meta32 k) lists
+pub lists-laid-once : (fmt : Format) (n : ℕ) (m : Meta) (lists : List ℕ) → IsProp (ListsLaid fmt n m lists)
+lists-laid-once fmt n m lists x y i = record {
+  many = le_prop x.many y.many i;
+  few = le_prop x.few y.few i;
+  room = le_prop x.room y.room i;
+  rising = rising-once n 0 (numbers 2 m.listed lists) x.rising y.rising i;
+}
 
 -- row a of vector v, for a condition that each position of the vector r may meet
 abbrev pub position_rows : Format → ℕ → ℕ → (ℤ → Option ℕ → Bool) → Raw → Rows
@@ -76,16 +83,16 @@ stand_in_as fmt r = stand_in_of (wholes fmt r) (marked r)
 
 -- ---- a walk over the positions i, where j positions of the list are behind it
 
--- whether i is the next position of the list
-abbrev pub is_next : List ℕ → ℕ → ℕ → Bool
-is_next ps i j = nat_lt j (length ps) && slice_index ps j == i
+-- the index of i in the list, if it is the next there
+abbrev pub listed_at : List ℕ → ℕ → ℕ → std.Option ℕ
+listed_at ps i j = then_some (nat_lt j (length ps) && slice_index ps j == i) j
 
 -- what is then behind it
-abbrev pub behind : Bool → ℕ → ℕ
-behind true j = j + 1
-behind false j = j
+abbrev pub behind : std.Option ℕ → ℕ → ℕ
+behind (Some k) j = j + 1
+behind None j = j
 
--- what is stored for a position: x where it is listed
-abbrev pub mark_of : Bool → ℕ → Option ℕ
-mark_of true x = some x
-mark_of false x = none
+-- what is stored for a position, which has an index where it is listed
+abbrev pub mark_of : List ℕ → std.Option ℕ → Option ℕ
+mark_of xs (Some j) = some (slice_index xs j)
+mark_of xs None = none

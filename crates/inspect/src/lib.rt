@@ -1,8 +1,8 @@
-// One vector examined, rows 20 to 24, for both kinds. Each row is a function that walks over the vector's positions beside its fields:
-// nothing is written, no buffer is held, and no list is searched.
+// One vector examined, rows 20 to 24. Each row is a function that walks over the vector's positions beside its fields: nothing is written,
+// no buffer is held, and no list is searched.
 #![tactic(auto)]
 
-pub mod walk; // walk.rt: one step of a walk
-pub mod faults; // faults.rt: the rows' conditions at one position
-pub mod rows; // rows.rt: rows 20 to 24
+mod walk; // walk.rt: a vector, what stands at a position, and a walk over all
+mod faults; // faults.rt: the rows' conditions at one position
+mod rows; // rows.rt: rows 20 to 24
 pub mod vector; // vector.rt: the rows in their order

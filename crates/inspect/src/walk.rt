@@ -1,69 +1,96 @@
-// One step of a walk over a vector's positions: the whole number at a position, and whether the position is listed. A walk holds the bit
-// at which the next field starts and the index of the next position of the list, which rises; so it never looks back.
-ghost use Rattle.std.specs.Prelude.{◌≡◌, ◌+◌, ◌*◌, ◌/◌, ◌%◌, ◌^◌, ◌<◌, ◌≤◌, length};
-ghost use Rattle.digits.specs.Digits.{number, numbers};
-ghost use Rattle.inspect.specs.Seen.{is_next, behind};
+// A vector, and a walk over its positions: what stands at a position, and its index in the list, if it is listed. A walk holds the index
+// of the list's next position, which rises; so it never looks back.
+ghost use Rattle.std.specs.Prelude.{◌≡◌, ◌^◌, ◌<◌};
+ghost use Rattle.rules.specs.Coded.{format_of, as_pair, number_of};
+ghost use Rattle.inspect.specs.Seen.{FieldsLaid, ListsLaid, behind, described, fields-laid-once, lists-laid-once};
 
-use bits::numbers::read_u16;
 use bits::windows::window;
-use decimal::tables::{Scale32, Scale64};
+use bits::word::Word;
+use checks::check::{Refusal, refuses};
+use decimal::scale::Scale;
+use decimal::value::Value;
+use rules::Row;
 
-// A vector's numbers: its own number, how many values and exceptions it has, its width and frame, and its pair with the powers.
-#[derive(Clone, Copy)]
-pub struct Vector64 {
+// A vector's own number, how many values and exceptions it has, its width and frame, its pair with the powers, its packed fields and its
+// lists. Its layout has been checked.
+#[derive(Drop)]
+pub struct Vector<'a, V: Value> {
     pub number: usize,
     pub count: usize,
     pub listed: usize,
     pub width: usize,
-    pub frame: u64,
-    pub scale: Scale64,
+    pub frame: V,
+    pub scale: Scale<V>,
+    pub packed: &'a [u8],
+    pub lists: &'a [u8],
+    ghost fields_laid: { FieldsLaid (format_of V.KIND) count (described (as_pair scale.pair) listed (V.as_number frame) width) packed.now } by { fields-laid-once _ _ _ _ },
+    ghost lists_laid: { ListsLaid (format_of V.KIND) count (described (as_pair scale.pair) listed (V.as_number frame) width) lists.now } by { lists-laid-once _ _ _ _ },
 }
 
-#[derive(Clone, Copy)]
-pub struct Vector32 {
-    pub number: usize,
-    pub count: usize,
-    pub listed: usize,
-    pub width: usize,
-    pub frame: u32,
-    pub scale: Scale32,
-}
-
-// Whether i is the position at index j of the list.
-pub fn is_next(lists: &[u8], listed: usize, i: usize, j: usize) -> bool
-    requires { listed * 2 ≤ length lists.now }
-    ensures { result ≡ is_next (numbers 2 listed lists.now) i j }
-{
-    if j < listed {
-        let p = read_u16(lists, 2 * j) as usize;
-        return p == i;
-    }
-    false
-}
-
-// The index of the next position of the list.
-pub fn next_index(listed: bool, j: usize) -> usize
+// The index of the list's next position, behind one that has an index if it is listed.
+fn next_index(index: Option<usize>, j: usize) -> usize
     requires { j < 2 ^ 32 }
-    ensures { result ≡ behind listed j }
+    ensures { result ≡ behind index j }
 {
-    if listed { j + 1 } else { j }
+    match index {
+        Some(_) => j + 1,
+        None => j,
+    }
 }
 
-// The whole number whose field starts at this bit, as a word: row 17 has passed, so the words may be added modulo 2^W.
-pub fn word_at64(packed: &[u8], start: usize, k: Vector64) -> u64
-    requires { (k.width ≤ 64) × (start + k.width ≤ 8 * length packed.now) }
-    ensures { result ≡ (k.frame + number packed.now / 2 ^ start % 2 ^ k.width) % 2 ^ 64 }
-{
-    let frame = k.frame;
-    let field = window(packed, start, k.width);
-    std::num::wrapping_add_u64(frame, field)
-}
+impl<'a, V: Value> Vector<'a, V> {
+    ghost use Rattle.std.specs.Prelude.{ℕ, ℤ, Bool, slice_index};
+    ghost use Rattle.std.proofs.Math.Option.{Option};
+    ghost use Rattle.std.proofs.Common.{to_z};
+    ghost use Rattle.rules.specs.Kind.{word};
+    ghost use Rattle.rules.specs.Vector.{fields};
+    ghost use Rattle.rules.specs.Verdict.{verdict};
+    ghost use Rattle.checks.specs.Forms.{as_verdict};
+    ghost use Rattle.inspect.specs.Seen.{listed_at, position_rows};
+    ghost use Rattle.inspect.specs.Looked.{raw_of, whole_at, MayAsk, Finds};
 
-pub fn word_at32(packed: &[u8], start: usize, k: Vector32) -> u32
-    requires { (k.width ≤ 32) × (start + k.width ≤ 8 * length packed.now) }
-    ensures { result ≡ (k.frame + number packed.now / 2 ^ start % 2 ^ k.width) % 2 ^ 32 }
-{
-    let frame = k.frame;
-    let field = window(packed, start, k.width) as u32;
-    std::num::wrapping_add_u32(frame, field)
+    // The index in the list of position i, if it is listed, where j positions of the list are behind it.
+    pub fn listed_at(&self, i: usize, j: usize) -> Option<usize>
+        ensures { result ≡ listed_at (raw_of self.now).positions i j }
+    {
+        let listed = j < self.listed && usize::from(u16::read(self.lists, 2 * j)) == i;
+        listed.then_some(j)
+    }
+
+    // The field of a position.
+    pub fn field_at(&self, i: usize) -> u64
+        requires { i < self.now.count }
+        ensures { result ≡ slice_index (fields (raw_of self.now)) i }
+    {
+        window(self.packed, self.width * i, self.width)
+    }
+
+    // The whole number at a position, as a word: row 17 has passed, so the words may be added modulo 2^W.
+    pub fn word_at(&self, i: usize) -> V
+        requires { i < self.now.count }
+        ensures { to_z (word (format_of V.KIND)) (V.as_number result) ≡ whole_at self.now i }
+    {
+        self.frame.wrapping_sum(V::from_number(self.field_at(i)))
+    }
+
+    // The row refuses at the first position that is at fault. `at_fault` is asked of a position, and its index in the list, if it is
+    // listed.
+    pub fn check_each<F: Fn(usize, Option<usize>) -> bool>(
+        &self,
+        row: Row,
+        at_fault: F,
+    ) -> Result<(), Refusal>
+        requires { MayAsk self.now (F.pre at_fault) }
+        ensures { (condition : ℤ → Option ℕ → Bool) → Finds self.now (F.post at_fault) condition → as_verdict result ≡ verdict (position_rows (format_of V.KIND) (number_of row) self.now.number condition (raw_of self.now)) }
+    {
+        let mut j: usize = 0;
+        for i in 0..self.count {
+            let index = self.listed_at(i, j);
+            if at_fault(i, index) {
+                return refuses(row, self.number, i);
+            }
+            j = next_index(index, j);
+        }
+        Ok(())
+    }
 }

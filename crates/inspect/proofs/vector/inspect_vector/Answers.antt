@@ -1,29 +1,41 @@
--- `vector::inspect_vector` meets its contract: each kind's function is that of its format. Assumes nothing.
-use Rattle.std.proofs.Common.{ℕ, List, drop, sym, ap, ◌∙◌, subst}
-use Rattle.rules.specs.Kind.{meta_bytes}
-use Rattle.rules.specs.Page.{meta_at, raw_from}
-use Rattle.rules.specs.Verdict.{Verdict, verdict}
+-- `vector::inspect_vector` meets its contract: the parts lent on are the vector's packed part and its lists. Assumes nothing.
+use Rattle.std.proofs.Common.{◌≡◌, ℕ, ◌<◌, ◌^◌, ap, ap₂, ◌∙◌, sym, subst}
+use Rattle.rules.specs.Kind.{meta_bytes, word_bits}
+use Rattle.rules.specs.Coded.{format_of, as_pair}
+use Rattle.rules.specs.Vector.{Raw}
+use Rattle.rules.specs.Page.{meta_at}
+use Rattle.rules.specs.Verdict.{verdict}
 use Rattle.rules.specs.Examine.{rules_rows}
-use Rattle.rules.proofs.Reading.{Passed}
-use Rattle.checks.specs.Forms.{format_of}
-use Rattle.checks.specs.declared.kind.Kind.{Kind}
+use Rattle.rules.specs.declared.Kind.{Kind}
+use Rattle.rules.specs.declared.Pair.{Pair}
+use Rattle.inspect.specs.Seen.{described}
+use Rattle.inspect.proofs.Parts.{fields_laid, lists-laid, seen-is}
 use Rattle.inspect.proofs.vector.inspect_vector.Goals as goal
 
--- the contract's two sides, of a kind k
-abbrev Asks : Kind → ℕ → List ℕ → Type 0
-Asks k n part = Passed (format_of k) n (meta_at (format_of k) part) part
+pub invariant_of-vector : goal.invariant_of-vector
+invariant_of-vector g c =
+    let fmt = format_of g.V.Value.KIND in
+    let a = c.args in
+    let m = c.meta_at-meta in
+    let f = c.meta_bytes-front in
+    let s = c.packed_size in
+    let known = described (as_pair c.scale_of.result.pair) m.result.listed (g.V.Word.as_number c.from_number.result) m.result.width in
+    let meta_is : known ≡ meta_at fmt a.part.now = ap₂ (λ (p : Pair) (n : ℕ). described (as_pair p) m.result.listed n m.result.width) c.scale_of.ensures c.from_number.ensures ∙ m.ensures.meta_is ∙ ap (λ (k : Kind). meta_at (format_of k) a.part.now) c.KIND.ensures in
+    let front_is : f.result ≡ meta_bytes fmt = f.ensures.0 ∙ ap (λ (k : Kind). meta_bytes (format_of k)) c.KIND-2.ensures in
+    let framed : g.V.Word.as_number c.from_number.result < 2 ^ word_bits fmt = subst (λ (n : ℕ). n < 2 ^ word_bits fmt) (sym c.from_number.ensures) (subst (λ (k : Kind). m.result.frame < 2 ^ word_bits (format_of k)) c.KIND.ensures m.ensures.frame) in
+    record {
+      fields_laid = fields_laid fmt a.n known a.part.now meta_is c.requires.0 c.requires.1 f.result s.result front_is s.ensures.0 framed;
+      lists_laid = lists-laid fmt a.n known a.part.now meta_is c.requires.0 c.requires.1 f.result s.result front_is s.ensures.0;
+    }
 
-abbrev given : Kind → ℕ → ℕ → List ℕ → Verdict
-given k v n part = verdict (rules_rows (format_of k) v (raw_from (format_of k) n (meta_at (format_of k) part) (drop (meta_bytes (format_of k)) part)))
-
-pub inspect_vector32-requires : goal.inspect_vector32-requires
-inspect_vector32-requires c = let a = c.args in (c.requires.0, subst (λ (k : Kind). Asks k a.n a.part.now) c.in-Single.is c.requires.1)
-
-pub inspect_vector64-requires : goal.inspect_vector64-requires
-inspect_vector64-requires c = let a = c.args in (c.requires.0, subst (λ (k : Kind). Asks k a.n a.part.now) c.in-Double.is c.requires.1)
-
-pub returns-in-Single : goal.returns-in-Single
-returns-in-Single c = let a = c.args in c.inspect_vector32.ensures ∙ ap (λ (k : Kind). given k a.v a.n a.part.now) (sym c.in-Single.is)
-
-pub returns-in-Double : goal.returns-in-Double
-returns-in-Double c = let a = c.args in c.inspect_vector64.ensures ∙ ap (λ (k : Kind). given k a.v a.n a.part.now) (sym c.in-Double.is)
+pub returns : goal.returns
+returns g c =
+    let fmt = format_of g.V.Value.KIND in
+    let a = c.args in
+    let m = c.meta_at-meta in
+    let f = c.meta_bytes-front in
+    let s = c.packed_size in
+    let known = described (as_pair c.scale_of.result.pair) m.result.listed (g.V.Word.as_number c.from_number.result) m.result.width in
+    let meta_is : known ≡ meta_at fmt a.part.now = ap₂ (λ (p : Pair) (n : ℕ). described (as_pair p) m.result.listed n m.result.width) c.scale_of.ensures c.from_number.ensures ∙ m.ensures.meta_is ∙ ap (λ (k : Kind). meta_at (format_of k) a.part.now) c.KIND.ensures in
+    let front_is : f.result ≡ meta_bytes fmt = f.ensures.0 ∙ ap (λ (k : Kind). meta_bytes (format_of k)) c.KIND-2.ensures in
+    c.check_rules.ensures ∙ ap (λ (r : Raw). verdict (rules_rows fmt a.v r)) (seen-is fmt a.n known a.part.now meta_is c.requires.0 c.requires.1 f.result s.result front_is s.ensures.0)
