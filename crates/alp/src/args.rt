@@ -1,8 +1,8 @@
 // The words on the command line.
-ghost use Rattle.std.specs.Prelude.{◌≤◌};
-
-use checks::kind::Kind;
+use crate::say::Failure;
+use rules::Kind;
 use std::env::{Env, FillError};
+use std::str::FromStr;
 
 #[derive(Clone, Copy)]
 pub enum Job {
@@ -11,29 +11,6 @@ pub enum Job {
     Examine,
     Show,
     Help,
-    Unknown,
-}
-
-#[derive(Clone, Copy)]
-pub enum KindWord {
-    Is(Kind),
-    Wrong,
-}
-
-#[derive(Clone, Copy)]
-pub enum ByteWord {
-    Is(u8),
-    Wrong,
-}
-
-#[derive(Clone, Copy)]
-pub enum NumberWord {
-    Is(u64),
-    Wrong,
-}
-
-fn same(a: &[u8], b: &[u8]) -> bool {
-    a == b
 }
 
 // The most words that a call of the tool has, and one more.
@@ -41,117 +18,57 @@ const MANY: usize = 9;
 
 // How many words there are, from the program's name on; no more than MANY are counted.
 pub fn words(rt: &impl Env) -> usize {
-    for i in 0..MANY {
-        let mut room: [u8; 0] = [];
-        if let Err(FillError::NotPresent) = rt.arg(i, &mut room) {
-            return i;
-        }
-    }
-    MANY
+    (0..MANY)
+        .find(|i| matches!(rt.arg(*i, &mut []), Err(FillError::NotPresent)))
+        .unwrap_or(MANY)
 }
 
-// The first word. One that does not fit `word` is none of ours.
-pub fn first_word(rt: &impl Env) -> Job {
-    let mut word: [u8; 8] = [0; 8];
-    match rt.arg(1, &mut word) {
-        Ok(n) => named(&word[..n]),
-        Err(_) => Job::Unknown,
-    }
+// Word i. One that does not fit the room is none of ours.
+fn word<'a>(rt: &impl Env, i: usize, room: &'a mut [u8]) -> Option<&'a [u8]> {
+    let n = rt.arg(i, room).ok()?;
+    Some(&room[..n])
 }
 
-fn named(word: &[u8]) -> Job {
-    if same(word, b"write") {
-        return Job::Write;
-    }
-    if same(word, b"read") {
-        return Job::Read;
-    }
-    if same(word, b"examine") {
-        return Job::Examine;
-    }
-    if same(word, b"show") {
-        return Job::Show;
-    }
-    if same(word, b"help") {
-        return Job::Help;
-    }
-    Job::Unknown
-}
-
-// The float kind that word i names.
-pub fn kind(rt: &impl Env, i: usize) -> KindWord {
-    let mut word: [u8; 8] = [0; 8];
-    match rt.arg(i, &mut word) {
-        Ok(n) => kind_named(&word[..n]),
-        Err(_) => KindWord::Wrong,
+// What the first word asks for.
+pub fn first_word(rt: &impl Env) -> Option<Job> {
+    match word(rt, 1, &mut [0; 8])? {
+        b"write" => Some(Job::Write),
+        b"read" => Some(Job::Read),
+        b"examine" => Some(Job::Examine),
+        b"show" => Some(Job::Show),
+        b"help" => Some(Job::Help),
+        _ => None,
     }
 }
 
-fn kind_named(word: &[u8]) -> KindWord {
-    if same(word, b"32") {
-        return KindWord::Is(Kind::Single);
+// The float kind that the second word names.
+pub fn kind(rt: &impl Env) -> Result<Kind, Failure> {
+    match word(rt, 2, &mut [0; 8]) {
+        Some(b"32") => Ok(Kind::Single),
+        Some(b"64") => Ok(Kind::Double),
+        _ => Err(Failure::Usage("KIND is 32 or 64")),
     }
-    if same(word, b"64") {
-        return KindWord::Is(Kind::Double);
-    }
-    KindWord::Wrong
 }
 
 // Whether word i leaves the pairs to the library.
 pub fn says_auto(rt: &impl Env, i: usize) -> bool {
-    let mut word: [u8; 8] = [0; 8];
-    match rt.arg(i, &mut word) {
-        Ok(n) => same(&word[..n], b"auto"),
-        Err(_) => false,
-    }
+    matches!(word(rt, i, &mut [0; 8]), Some(b"auto"))
 }
 
-// The number from 0 to 255 that word i spells, so `%` cuts nothing off. Whether it is inside the page's limits is the library's to say.
-pub fn byte(rt: &impl Env, i: usize) -> ByteWord {
-    let mut word: [u8; 8] = [0; 8];
-    match rt.arg(i, &mut word) {
-        Ok(n) => byte_spelled(&word[..n]),
-        Err(_) => ByteWord::Wrong,
-    }
-}
-
-fn byte_spelled(word: &[u8]) -> ByteWord {
-    match spelled(word, 255) {
-        NumberWord::Is(number) => ByteWord::Is((number % 256) as u8),
-        NumberWord::Wrong => ByteWord::Wrong,
-    }
+// The number from 0 to 255 that word i spells. Whether it is inside the page's limits is the library's to say.
+pub fn byte(rt: &impl Env, i: usize) -> Option<u8> {
+    spelled(word(rt, i, &mut [0; 8])?)
 }
 
 // The number of 64 bits that word i spells; the largest has 20 digits.
-pub fn number(rt: &impl Env, i: usize) -> NumberWord {
-    let mut word: [u8; 20] = [0; 20];
-    match rt.arg(i, &mut word) {
-        Ok(n) => spelled(&word[..n], 0xFFFF_FFFF_FFFF_FFFF),
-        Err(_) => NumberWord::Wrong,
-    }
+pub fn number(rt: &impl Env, i: usize) -> Option<u64> {
+    spelled(word(rt, i, &mut [0; 20])?)
 }
 
-// The number that the digits spell, if it is not above `most`.
-fn spelled(word: &[u8], most: u64) -> NumberWord
-    requires { 9 ≤ most }
-{
-    if word.len() == 0 {
-        return NumberWord::Wrong;
+// The number that digits alone spell: `parse` would take a sign as well.
+fn spelled<T: FromStr<Err: Drop> + Drop>(word: &[u8]) -> Option<T> {
+    if !word.iter().all(u8::is_ascii_digit) {
+        return None;
     }
-    let mut number: u64 = 0;
-    for byte in word {
-        let byte = *byte;
-        if byte < b'0' {
-            return NumberWord::Wrong;
-        }
-        if b'9' < byte {
-            return NumberWord::Wrong;
-        }
-        let digit = (byte - b'0') as u64;
-        if (most - digit) / 10 < number {
-            return NumberWord::Wrong;
-        }
-        number = number * 10 + digit;
-    }
-    NumberWord::Is(number)
+    std::str::from_utf8(word).ok()?.parse().ok()
 }

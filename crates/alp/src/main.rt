@@ -12,24 +12,30 @@ mod show;
 mod write;
 
 use crate::args::{Job, first_word};
+use crate::say::{Failure, HELP, tell};
 use sentences::Output;
 use std::env::Env;
 use std::fs::Files;
 use std::io;
 
-fn run(rt: &(impl Env + Files + Alloc), to: &mut Output) {
+fn run(rt: &(impl Env + Files + Alloc), to: &mut Output) -> Result<(), Failure> {
     match first_word(rt) {
-        Job::Write => write::run(rt, to),
-        Job::Read => read::run(rt, to),
-        Job::Examine => examine::run(rt, to),
-        Job::Show => show::run(rt, to),
-        Job::Help => say::help(to),
-        Job::Unknown => say::wrong(to, b"the first word is write, read, examine, show or help"),
+        Some(Job::Write) => write::run(rt, to),
+        Some(Job::Read) => read::run(rt, to),
+        Some(Job::Examine) => examine::run(rt, to),
+        Some(Job::Show) => show::run(rt, to),
+        Some(Job::Help) => {
+            to.show(HELP);
+            Ok(())
+        }
+        None => Err(Failure::Usage("the first word is write, read, examine, show or help")),
     }
 }
 
 fn main(rt: HostRuntime) -> io::Result<()> {
     let mut to = Output::new(rt.stdout(), rt.stderr());
-    run(&rt, &mut to);
+    if let Err(failure) = run(&rt, &mut to) {
+        tell(&mut to, failure);
+    }
     to.finish()
 }

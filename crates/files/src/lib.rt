@@ -4,66 +4,48 @@
 
 ghost use Rattle.std.specs.Prelude.{◌≤◌, IfOk, length};
 
-use sentences::{Output, error};
+use sentences::Output;
 use std::alloc::Allocator;
 use std::env::{Env, FillError};
 use std::fs::{Files, OpenFile, OpenOptions};
 use std::io::{ErrorKind, Read, Write};
 use std::{fs, io};
 
-// How many bytes came, if none of the reads failed.
-#[derive(Clone, Copy)]
-pub struct Loaded {
-    pub failed: bool,
-    pub count: usize,
-}
-
-fn nothing() -> Loaded
-    ensures { result.count ≤ 0 }
-{
-    Loaded {
-        failed: true,
-        count: 0,
-    }
-}
-
 // ---- complaints
+
+// A file could not be read or made, and standard error says why.
+#[derive(Clone, Copy, Debug)]
+pub struct Complained;
 
 // "WHO: cannot read PATH: why", on standard error.
 fn complain<A: Allocator>(
     alloc: A,
     to: &mut Output,
     who: &[u8],
-    what: &[u8],
-    path: &[u8],
+    what: &str,
+    path: &str,
     why: io::Error,
-) {
-    error(to, who);
-    error(to, what);
-    error(to, path);
-    error(to, b": ");
-    reason(alloc, to, why);
-    error(to, b"\n");
-}
-
-// The system's words. Where memory for them is short, with the number that the library puts behind them.
-fn reason<A: Allocator>(alloc: A, to: &mut Output, why: io::Error) {
+) -> Complained {
+    to.complain(who);
     match format!(in alloc; "{why}") {
-        Ok(all) => error(to, words(all.as_str()).as_bytes()),
-        Err(_) => to.complain_of(why),
+        Ok(all) => {
+            let words = words(all.as_str());
+            to.complain_of(format_args!(": {what}{path}: {words}\n"));
+        }
+        Err(_) => to.complain_of(format_args!(": {what}{path}: {why}\n")),
     }
+    Complained
 }
 
+// The system's words, without the number that the library puts behind them; where memory for them is short, it stays.
 fn words(all: &str) -> &str {
-    match all.split_once(" (os error ") {
-        Some((words, _)) => words,
-        None => all,
-    }
+    all.split_once(" (os error ")
+        .map_or(all, |(words, _)| words)
 }
 
 // ---- a file's name
 
-// The longest path that the system takes, and the end that it has there.
+// The longest path that the system takes, and the end that it has there. On the stack: a name needs no memory that could be short.
 fn name_room() -> [u8; 4096] {
     [0; 4096]
 }
@@ -73,27 +55,17 @@ const MISSING: i32 = 22;
 
 const TOO_LONG: i32 = 36;
 
-// How long word i is, which comes to the front of the room.
-fn word(rt: &impl Env, i: usize, room: &mut [u8]) -> io::Result<usize>
-    ensures { IfOk result (λ n. n ≤ length room.new) }
-{
-    match rt.arg(i, room) {
-        Ok(n) => Ok(n),
-        Err(FillError::NotPresent) => Err(io::Error::from_raw_os_error(MISSING)),
-        Err(FillError::TooLong) => Err(io::Error::from_raw_os_error(TOO_LONG)),
-    }
-}
+// What a complaint calls a name that is none.
+const NAME: &str = "a file's name";
 
-// The library takes no other names.
-fn name(word: &[u8]) -> io::Result<&str> {
-    match std::str::from_utf8(word) {
-        Ok(name) => Ok(name),
-        Err(_) => Err(io::Error::new(ErrorKind::InvalidData, "not UTF-8")),
-    }
-}
-
-fn nameless<A: Allocator>(alloc: A, to: &mut Output, who: &[u8], why: io::Error) {
-    complain(alloc, to, who, b": ", b"a file's name", why);
+// Word i, which comes to the front of the room. The library takes no other names.
+fn name<'a>(rt: &impl Env, i: usize, room: &'a mut [u8]) -> io::Result<&'a str> {
+    let n = match rt.arg(i, room) {
+        Ok(n) => n,
+        Err(FillError::NotPresent) => return Err(io::Error::from_raw_os_error(MISSING)),
+        Err(FillError::TooLong) => return Err(io::Error::from_raw_os_error(TOO_LONG)),
+    };
+    std::str::from_utf8(&room[..n]).map_err(|_| io::Error::new(ErrorKind::InvalidData, "not UTF-8"))
 }
 
 // ---- reading
@@ -103,7 +75,7 @@ fn fill(file: &mut impl Read, room: &mut [u8]) -> io::Result<usize>
     ensures { IfOk result (λ count. count ≤ length room.new) }
 {
     let mut at: usize = 0;
-    while at < room.len() {
+    while at < room.len() { // each read brings as many bytes as the system likes; `read_to_end` would want a Vec
         let more = file.read(&mut room[at..])?;
         if more == 0 {
             break;
@@ -113,6 +85,7 @@ fn fill(file: &mut impl Read, room: &mut [u8]) -> io::Result<usize>
     Ok(at)
 }
 
+// The file of this name, to the front of the room: how many bytes came.
 fn read_path(rt: &impl Files, path: &str, room: &mut [u8]) -> io::Result<usize>
     ensures { IfOk result (λ count. count ≤ length room.new) }
 {
@@ -120,53 +93,26 @@ fn read_path(rt: &impl Files, path: &str, room: &mut [u8]) -> io::Result<usize>
     fill(&mut file, room)
 }
 
-// The file at `path`, to the front of the room; a sentence where it can't be read.
-fn load_path<R: Files + Alloc>(
-    rt: &R,
-    to: &mut Output,
-    who: &[u8],
-    path: &str,
-    room: &mut [u8],
-) -> Loaded
-    ensures { result.count ≤ length room.new }
-{
-    match read_path(rt, path, room) {
-        Ok(count) => Loaded {
-            failed: false,
-            count,
-        },
-        Err(why) => {
-            complain(rt.alloc(), to, who, b": cannot read ", path.as_bytes(), why);
-            nothing()
-        }
-    }
-}
-
-// The file that word i names.
+// The file that word i names, to the front of the room: how many bytes came.
 pub fn load<R: Env + Files + Alloc>(
     rt: &R,
     to: &mut Output,
     who: &[u8],
     i: usize,
     room: &mut [u8],
-) -> Loaded
-    ensures { result.count ≤ length room.new }
+) -> Result<usize, Complained>
+    ensures { IfOk result (λ count. count ≤ length room.new) }
 {
     let mut bytes = name_room();
-    let n = match word(rt, i, &mut bytes) {
-        Ok(n) => n,
-        Err(why) => {
-            nameless(rt.alloc(), to, who, why);
-            return nothing();
-        }
-    };
-    match name(&bytes[..n]) {
-        Ok(path) => load_path(rt, to, who, path, room),
-        Err(why) => {
-            nameless(rt.alloc(), to, who, why);
-            nothing()
-        }
-    }
+    let path = name(rt, i, &mut bytes).map_err(|why| complain(rt.alloc(), to, who, NAME, "", why))?;
+    read_path(rt, path, room).map_err(|why| complain(
+        rt.alloc(),
+        to,
+        who,
+        "cannot read ",
+        path,
+        why,
+    ))
 }
 
 // ---- writing
@@ -185,60 +131,28 @@ fn put<F: Write + OpenFile>(file: &mut F, bytes: &[u8]) -> io::Result<()> {
     file.sync_all()
 }
 
-// A new file at `path` with these bytes; whether it was made. One that could not be written whole is taken away again: it is ours,
+// A new file with these bytes, under the name that word i gives. One that could not be written whole is taken away again: it is ours,
 // since `make` takes no file that exists.
-fn save_path<R: Files + Alloc>(
-    rt: &R,
-    to: &mut Output,
-    who: &[u8],
-    path: &str,
-    bytes: &[u8],
-) -> bool {
-    let mut file = match make(rt, path) {
-        Ok(file) => file,
-        Err(why) => {
-            complain(rt.alloc(), to, who, b": cannot make ", path.as_bytes(), why);
-            return false;
-        }
-    };
-    match put(&mut file, bytes) {
-        Ok(()) => true,
-        Err(why) => {
-            complain(
-                rt.alloc(),
-                to,
-                who,
-                b": cannot write ",
-                path.as_bytes(),
-                why,
-            );
-            fs::remove_file(rt, path).ok(); // where that fails too, the complaint above is still the one to make
-            false
-        }
-    }
-}
-
-// A new file under the name that word i gives.
 pub fn save<R: Env + Files + Alloc>(
     rt: &R,
     to: &mut Output,
     who: &[u8],
     i: usize,
     bytes: &[u8],
-) -> bool {
+) -> Result<(), Complained> {
     let mut room = name_room();
-    let n = match word(rt, i, &mut room) {
-        Ok(n) => n,
-        Err(why) => {
-            nameless(rt.alloc(), to, who, why);
-            return false;
-        }
-    };
-    match name(&room[..n]) {
-        Ok(path) => save_path(rt, to, who, path, bytes),
-        Err(why) => {
-            nameless(rt.alloc(), to, who, why);
-            false
-        }
-    }
+    let path = name(rt, i, &mut room).map_err(|why| complain(rt.alloc(), to, who, NAME, "", why))?;
+    let mut file = make(rt, path).map_err(|why| complain(
+        rt.alloc(),
+        to,
+        who,
+        "cannot make ",
+        path,
+        why,
+    ))?;
+    put(&mut file, bytes).map_err(|why| {
+        let complained = complain(rt.alloc(), to, who, "cannot write ", path, why);
+        fs::remove_file(rt, path).ok(); // where that fails too, the complaint is still the one to make
+        complained
+    })
 }

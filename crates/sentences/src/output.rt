@@ -8,7 +8,7 @@ use std::io::{Stderr, Stdout, Write};
 pub struct Output {
     out: Stdout,
     err: Stderr,
-    broken: Option<io::Error>,
+    so_far: io::Result<()>,
 }
 
 impl Output {
@@ -16,42 +16,38 @@ impl Output {
         Output {
             out,
             err,
-            broken: None,
+            so_far: Ok(()),
         }
     }
 
     // These bytes, on standard output.
     pub fn say(&mut self, t: &[u8]) {
-        if self.broken.is_none() {
-            self.broken = self.out.write_all(t).err();
-        }
-    }
-
-    // These bytes, on standard error.
-    pub fn complain(&mut self, t: &[u8]) {
-        if self.broken.is_none() {
-            self.broken = self.err.write_all(t).err();
+        if self.so_far.is_ok() {
+            self.so_far = self.out.write_all(t);
         }
     }
 
     // A value as text, on standard output.
     pub fn show<D: Display + Drop>(&mut self, value: D) {
-        if self.broken.is_none() {
-            self.broken = self.out.write_fmt(value).err();
+        if self.so_far.is_ok() {
+            self.so_far = self.out.write_fmt(value);
         }
     }
 
-    // A value as text, on standard error.
+    // The same two on standard error, where a program says why it did nothing.
+    pub fn complain(&mut self, t: &[u8]) {
+        if self.so_far.is_ok() {
+            self.so_far = self.err.write_all(t);
+        }
+    }
+
     pub fn complain_of<D: Display + Drop>(&mut self, value: D) {
-        if self.broken.is_none() {
-            self.broken = self.err.write_fmt(value).err();
+        if self.so_far.is_ok() {
+            self.so_far = self.err.write_fmt(value);
         }
     }
 
     pub fn finish(self) -> io::Result<()> {
-        match self.broken {
-            Some(error) => Err(error),
-            None => Ok(()),
-        }
+        self.so_far
     }
 }
