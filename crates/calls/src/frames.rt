@@ -1,165 +1,194 @@
-// A request's first 16 bytes, an answer's 24, and the pair behind an answer.
-ghost use Rattle.std.specs.Prelude.{◌≤◌, length};
+// Requests, what they bring, and answers, as bytes (docs/FRAMES.md).
+ghost use Rattle.std.specs.Prelude.{◌≡◌, ◌^◌, ◌<◌, IfOk, length, vec_len};
 
-use bits::numbers::{read_u32, store_u64};
-use rules::{Answer, Choice};
+use bits::word::Word;
+use columns::{bytes, words};
+use decimal::value::Value;
+use rules::{Answer, Choice, Kind};
+use std::alloc::{AllocError, Global};
 use std::io;
 use std::io::{Read, Stdin, Stdout, Write};
 
-// Where requests come from and answers go. The first read or write that fails is kept and nothing is read or written behind it, so no answer
-// stands for a request that a failed read cut short; `finish` gives that failure, and `main` ends with it.
-#[derive(Drop)]
-pub struct Wire {
-    input: Stdin,
-    output: Stdout,
-    broken: Option<io::Error>,
+// Why the program ends before its input does.
+#[derive(Debug, Drop)]
+pub enum Broken {
+    // a request that breaks the shape or is cut short
+    Request,
+    // a read or a write that failed, or memory that ran out
+    Wire(io::Error),
 }
 
-impl Wire {
-    pub fn new(input: Stdin, output: Stdout) -> Wire {
-        Wire {
-            input,
-            output,
-            broken: None,
-        }
+impl From<io::Error> for Broken {
+    fn from(error: io::Error) -> Broken {
+        Broken::Wire(error)
     }
+}
 
-    // Reads until the part is full or the input ends, and says how many bytes came.
-    fn read(&mut self, part: &mut [u8]) -> usize {
-        let mut done: usize = 0;
-        while done < part.len() {
-            let more = self.read_some(&mut part[done..]);
-            if more == 0 {
-                break;
-            }
-            done += more;
-        }
-        done
+impl From<AllocError> for Broken {
+    fn from(error: AllocError) -> Broken {
+        Broken::Wire(io::Error::from(error))
     }
+}
 
-    fn read_some(&mut self, part: &mut [u8]) -> usize
-        ensures { result ≤ length part.new }
-    {
-        if self.broken.is_some() {
-            return 0;
-        }
-        match self.input.read(part) {
-            Ok(more) => more,
-            Err(error) => {
-                self.broken = Some(error);
-                0
-            }
-        }
-    }
+// ---- a request
 
-    fn write(&mut self, part: &[u8]) {
-        if self.broken.is_none() {
-            self.broken = self.output.write_all(part).err();
-        }
-    }
+#[derive(Clone, Copy)]
+pub enum Call {
+    Measure,
+    Write,
+    Read,
+    Examine,
+    ReadVector,
+    Choose,
+}
 
-    pub fn finish(self) -> io::Result<()> {
-        match self.broken {
-            Some(error) => Err(error),
-            None => Ok(()),
+impl TryFrom<u8> for Call {
+    type Error = Broken;
+
+    fn try_from(byte: u8) -> Result<Call, Broken> {
+        match byte {
+            1 => Ok(Call::Measure),
+            2 => Ok(Call::Write),
+            3 => Ok(Call::Read),
+            4 => Ok(Call::Examine),
+            5 => Ok(Call::ReadVector),
+            6 => Ok(Call::Choose),
+            _ => Err(Broken::Request),
         }
     }
 }
+
+fn kind_of(byte: u8) -> Result<Kind, Broken> {
+    match byte {
+        32 => Ok(Kind::Single),
+        64 => Ok(Kind::Double),
+        _ => Err(Broken::Request),
+    }
+}
+
+const REQUEST_BYTES: usize = 16;
 
 // The call, the kind, s, and the three lengths.
 #[derive(Clone, Copy)]
 pub struct Request {
-    pub call: u8,
-    pub kind: u8,
+    pub call: Call,
+    pub kind: Kind,
     pub s: u8,
-    pub a: usize,
-    pub b: usize,
-    pub c: usize,
+    pub a: u32,
+    pub b: u32,
+    pub c: u32,
 }
 
-#[derive(Clone, Copy)]
-pub enum Got {
-    Nothing,
-    Bad,
-    Sound(Request),
+impl Request {
+    fn parse(bytes: &[u8]) -> Result<Request, Broken> {
+        let [call, kind, s, 0, lengths @ ..] = bytes else {
+            return Err(Broken::Request);
+        };
+        if lengths.len() != 12 {
+            return Err(Broken::Request);
+        }
+        Ok(Request {
+            call: Call::try_from(*call)?,
+            kind: kind_of(*kind)?,
+            s: *s,
+            a: u32::read(lengths, 0),
+            b: u32::read(lengths, 4),
+            c: u32::read(lengths, 8),
+        })
+    }
+
+    // Refuses a length that is above its limit.
+    pub fn limit(&self, a: u32, b: u32, c: u32) -> Result<(), Broken> {
+        if a < self.a || b < self.b || c < self.c {
+            return Err(Broken::Request);
+        }
+        Ok(())
+    }
 }
 
-pub const MOST_VALUES: usize = 16_400;
+// ---- the two ends
 
-pub const MOST_BYTES: usize = 400_000;
-
-pub const MOST_PAIRS: usize = 4_200;
-
-// How long the number of a vector is.
-pub const NUMBER_BYTES: usize = 8;
-
-// A request of a known call and kind.
-fn known(call: u8, kind: u8, zero: u8) -> bool {
-    if call < 1 {
-        return false;
-    }
-    if 6 < call {
-        return false;
-    }
-    if zero != 0 {
-        return false;
-    }
-    if kind == 32 {
-        return true;
-    }
-    kind == 64
+// Where requests come from and answers go.
+#[derive(Drop)]
+pub struct Wire {
+    input: Stdin,
+    output: Stdout,
+    alloc: Global,
 }
 
-// The next request's numbers. No bytes at all are the end of the input, and fewer than 16 a broken request.
-pub fn head(wire: &mut Wire) -> Got {
-    let mut bytes: [u8; 16] = [0; 16];
-    let got = wire.read(&mut bytes);
-    if got == 0 {
-        return Got::Nothing;
+impl Wire {
+    pub fn new(input: Stdin, output: Stdout, alloc: Global) -> Wire {
+        Wire {
+            input,
+            output,
+            alloc,
+        }
     }
-    if got < 16 {
-        return Got::Bad;
+
+    // The next bytes, fewer only where the input ends.
+    fn up_to(&mut self, most: usize) -> io::Result<Vec<u8>> {
+        let mut bytes = Vec::new(self.alloc);
+        self.input
+            .by_ref()
+            .take(most as u64)
+            .read_to_end(&mut bytes)?;
+        Ok(bytes)
     }
-    let call = bytes[0];
-    let kind = bytes[1];
-    let s = bytes[2];
-    let zero = bytes[3];
-    if !known(call, kind, zero) {
-        return Got::Bad;
+
+    // The next request. No bytes at all are the end of the input.
+    pub fn request(&mut self) -> Result<Option<Request>, Broken> {
+        let bytes = self.up_to(REQUEST_BYTES)?;
+        if bytes.is_empty() {
+            return Ok(None);
+        }
+        Ok(Some(Request::parse(&bytes)?))
     }
-    let a = read_u32(&bytes, 4) as usize;
-    let b = read_u32(&bytes, 8) as usize;
-    let c = read_u32(&bytes, 12) as usize;
-    Got::Sound(Request {
-        call,
-        kind,
-        s,
-        a,
-        b,
-        c,
-    })
-}
 
-// All of `part` from the input.
-pub fn fill(wire: &mut Wire, part: &mut [u8]) -> bool {
-    let wanted = part.len();
-    wire.read(part) == wanted
-}
+    // Just so many bytes.
+    pub fn bytes(&mut self, count: usize) -> Result<Vec<u8>, Broken>
+        ensures { IfOk result (λ bytes. vec_len bytes ≡ count) }
+    {
+        let bytes = self.up_to(count)?;
+        if bytes.len() != count {
+            return Err(Broken::Request);
+        }
+        Ok(bytes)
+    }
 
-pub fn give(wire: &mut Wire, part: &[u8]) {
-    wire.write(part);
-}
+    // Just so many values.
+    pub fn values<V: Value>(&mut self, count: u32) -> Result<Vec<V>, Broken>
+        ensures { IfOk result (λ values. vec_len values ≡ count) }
+    {
+        let count = count as usize;
+        let raw = self.bytes(V::BYTES * count)?;
+        let mut values = vec![in self.alloc; V::from_number(0); count]?;
+        words(&raw, &mut values);
+        Ok(values)
+    }
 
-pub fn answer(wire: &mut Wire, a: Answer) {
-    let mut bytes: [u8; 24] = [0; 24];
-    store_u64(&mut bytes, 0, a.number);
-    store_u64(&mut bytes, 8, a.vector);
-    store_u64(&mut bytes, 16, a.place);
-    give(wire, &bytes);
-}
+    pub fn give(&mut self, bytes: &[u8]) -> io::Result<()> {
+        self.output.write_all(bytes)
+    }
 
-pub fn choice(wire: &mut Wire, c: Choice) {
-    let pair: [u8; 2] = [c.exponent, c.factor];
-    answer(wire, c.answer);
-    give(wire, &pair);
+    // Values, as the bytes that `values` takes them from.
+    pub fn give_values<V: Value>(&mut self, values: &[V]) -> io::Result<()>
+        requires { length values.now < 2 ^ 32 }
+    {
+        let mut raw = vec![in self.alloc; 0; V::BYTES * values.len()]?;
+        bytes(values, &mut raw);
+        self.give(&raw)
+    }
+
+    pub fn answer(&mut self, a: Answer) -> io::Result<()> {
+        let mut bytes: [u8; 24] = [0; 24];
+        a.number.store(&mut bytes, 0);
+        a.vector.store(&mut bytes, 8);
+        a.place.store(&mut bytes, 16);
+        self.give(&bytes)
+    }
+
+    pub fn choice(&mut self, c: Choice) -> io::Result<()> {
+        self.answer(c.answer)?;
+        self.give(&[c.exponent, c.factor])
+    }
 }

@@ -2,31 +2,38 @@
 #![tactic(auto)]
 
 mod frames;
-mod rooms;
 mod serve;
 
-use crate::frames::{Got, Wire, head};
-use crate::serve::{bad, serve};
+use crate::frames::{Broken, Wire};
+use crate::serve::serve;
+use rules::Answer;
 use std::io;
 
 // A loop has to end: this one does after more requests than anybody sends.
 const MOST: u64 = 1_000_000_000_000;
 
-fn main(rt: HostRuntime) -> io::Result<()> {
-    let mut wire = Wire::new(rt.stdin(), rt.stdout());
+// What a request that breaks the shape is answered.
+const BROKEN: Answer = Answer {
+    number: 255,
+    vector: 0,
+    place: 0,
+};
+
+fn all(wire: &mut Wire) -> Result<(), Broken> {
     for _ in 0..MOST {
-        if !one(&mut wire) {
+        let Some(request) = wire.request()? else {
             break;
-        }
+        };
+        serve(wire, request)?;
     }
-    wire.finish()
+    Ok(())
 }
 
-// The next request, if there is one; whether to go on.
-fn one(wire: &mut Wire) -> bool {
-    match head(wire) {
-        Got::Nothing => false,
-        Got::Bad => bad(wire),
-        Got::Sound(request) => serve(wire, request),
+fn main(rt: HostRuntime) -> io::Result<()> {
+    let mut wire = Wire::new(rt.stdin(), rt.stdout(), rt.alloc());
+    match all(&mut wire) {
+        Ok(()) => Ok(()),
+        Err(Broken::Request) => wire.answer(BROKEN),
+        Err(Broken::Wire(error)) => Err(error),
     }
 }

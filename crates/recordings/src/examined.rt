@@ -1,65 +1,61 @@
 // Each of rows 20 to 24 in a second vector, with its position: pages that the reader takes and the examiner does not.
-use crate::pages::{both32, both64};
-use sentences::Output;
+use crate::pages::{Page, each};
+use crate::show::Recorder;
+use std::alloc::AllocError;
 
-// frame -2 for -1.0, 1.0
-fn frame64(to: &mut Output) {
-    both64(
-        to,
-        b"row-24-frame-64",
-        b"\x01\x00\x00\x0A\x02\x00\x00\x00\x04\x00\x00\x00\
-        \x00\x00\x00\x00\xFE\xFF\xFF\xFF\xFF\xFF\xFF\xFF\x02\x0D",
-    );
-}
-
-pub fn run(to: &mut Output) {
+const SINGLE: [Page; 6] = [
     // the lowest unused bit is 1
-    let vector_1_row_20: [u8; 35] = [
-        0x01, 0x00, 0x00, 0x03, 0x0B, 0x00, 0x00, 0x00, 0x08, 0x00, 0x00, 0x00, 0x11, 0x00, 0x00,
-        0x00, 0x00, 0x00, 0x00, 0x00, 0x07, 0x00, 0x00, 0x00, 0x00, 0x00, 0x00, 0x00, 0x00, 0x07,
-        0x00, 0x00, 0x00, 0x01, 0x0A,
-    ];
-    both32(to, b"vector-1-row-20", &vector_1_row_20);
+    (
+        "vector-1-row-20",
+        b"\x01\x00\x00\x03\x0B\x00\x00\x00\x08\x00\x00\x00\x11\x00\x00\x00\x00\x00\x00\x00\x07\x00\x00\x00\x00\x00\x00\x00\x00\x07\
+          \x00\x00\x00\x01\x0A",
+    ),
     // 16,777,217 comes back as 16777216.0
-    let vector_1_row_21: [u8; 35] = [
-        0x01, 0x00, 0x00, 0x03, 0x0B, 0x00, 0x00, 0x00, 0x08, 0x00, 0x00, 0x00, 0x11, 0x00, 0x00,
-        0x00, 0x00, 0x00, 0x00, 0x00, 0x07, 0x00, 0x00, 0x00, 0x00, 0x00, 0x00, 0x00, 0x00, 0x00,
-        0x00, 0x00, 0x01, 0x01, 0x04,
-    ];
-    both32(to, b"vector-1-row-21", &vector_1_row_21);
+    (
+        "vector-1-row-21",
+        b"\x01\x00\x00\x03\x0B\x00\x00\x00\x08\x00\x00\x00\x11\x00\x00\x00\x00\x00\x00\x00\x07\x00\x00\x00\x00\x00\x00\x00\x00\x00\
+          \x00\x00\x01\x01\x04",
+    ),
     // a listed 7.0
-    let vector_1_row_22: [u8; 40] = [
-        0x01, 0x00, 0x00, 0x03, 0x0A, 0x00, 0x00, 0x00, 0x08, 0x00, 0x00, 0x00, 0x11, 0x00, 0x00,
-        0x00, 0x00, 0x00, 0x00, 0x00, 0x07, 0x00, 0x00, 0x00, 0x00, 0x00, 0x00, 0x01, 0x00, 0x07,
-        0x00, 0x00, 0x00, 0x00, 0x01, 0x00, 0x00, 0x00, 0xE0, 0x40,
-    ];
-    both32(to, b"vector-1-row-22", &vector_1_row_22);
+    (
+        "vector-1-row-22",
+        b"\x01\x00\x00\x03\x0A\x00\x00\x00\x08\x00\x00\x00\x11\x00\x00\x00\x00\x00\x00\x00\x07\x00\x00\x00\x00\x00\x00\x01\x00\x07\
+          \x00\x00\x00\x00\x01\x00\x00\x00\xE0\x40",
+    ),
     // 8 stands in for a NaN in place of 7
-    let vector_1_row_23: [u8; 41] = [
-        0x01, 0x00, 0x00, 0x03, 0x0B, 0x00, 0x00, 0x00, 0x08, 0x00, 0x00, 0x00, 0x11, 0x00, 0x00,
-        0x00, 0x00, 0x00, 0x00, 0x00, 0x07, 0x00, 0x00, 0x00, 0x00, 0x00, 0x00, 0x01, 0x00, 0x07,
-        0x00, 0x00, 0x00, 0x01, 0x06, 0x01, 0x00, 0x00, 0x00, 0xC0, 0x7F,
-    ];
-    both32(to, b"vector-1-row-23", &vector_1_row_23);
+    (
+        "vector-1-row-23",
+        b"\x01\x00\x00\x03\x0B\x00\x00\x00\x08\x00\x00\x00\x11\x00\x00\x00\x00\x00\x00\x00\x07\x00\x00\x00\x00\x00\x00\x01\x00\x07\
+          \x00\x00\x00\x01\x06\x01\x00\x00\x00\xC0\x7F",
+    ),
     // frame 6 for 7.0, 8.0
-    let vector_1_row_24_frame: [u8; 35] = [
-        0x01, 0x00, 0x00, 0x03, 0x0A, 0x00, 0x00, 0x00, 0x08, 0x00, 0x00, 0x00, 0x11, 0x00, 0x00,
-        0x00, 0x00, 0x00, 0x00, 0x00, 0x07, 0x00, 0x00, 0x00, 0x00, 0x00, 0x00, 0x00, 0x00, 0x06,
-        0x00, 0x00, 0x00, 0x02, 0x09,
-    ];
-    both32(to, b"vector-1-row-24-frame", &vector_1_row_24_frame);
+    (
+        "vector-1-row-24-frame",
+        b"\x01\x00\x00\x03\x0A\x00\x00\x00\x08\x00\x00\x00\x11\x00\x00\x00\x00\x00\x00\x00\x07\x00\x00\x00\x00\x00\x00\x00\x00\x06\
+          \x00\x00\x00\x02\x09",
+    ),
     // width 2 for 7.0, 8.0
-    let vector_1_row_24_width: [u8; 35] = [
-        0x01, 0x00, 0x00, 0x03, 0x0A, 0x00, 0x00, 0x00, 0x08, 0x00, 0x00, 0x00, 0x11, 0x00, 0x00,
-        0x00, 0x00, 0x00, 0x00, 0x00, 0x07, 0x00, 0x00, 0x00, 0x00, 0x00, 0x00, 0x00, 0x00, 0x07,
-        0x00, 0x00, 0x00, 0x02, 0x04,
-    ];
-    both32(to, b"vector-1-row-24-width", &vector_1_row_24_width);
+    (
+        "vector-1-row-24-width",
+        b"\x01\x00\x00\x03\x0A\x00\x00\x00\x08\x00\x00\x00\x11\x00\x00\x00\x00\x00\x00\x00\x07\x00\x00\x00\x00\x00\x00\x00\x00\x07\
+          \x00\x00\x00\x02\x04",
+    ),
+];
+
+const DOUBLE: [Page; 2] = [
     // 2^53 + 1
-    let row_21_64: [u8; 26] = [
-        0x01, 0x00, 0x00, 0x0A, 0x02, 0x00, 0x00, 0x00, 0x04, 0x00, 0x00, 0x00, 0x00, 0x00, 0x00,
-        0x00, 0x00, 0x00, 0x00, 0x00, 0x00, 0x00, 0x20, 0x00, 0x01, 0x02,
-    ];
-    both64(to, b"row-21-64", &row_21_64);
-    frame64(to);
+    (
+        "row-21-64",
+        b"\x01\x00\x00\x0A\x02\x00\x00\x00\x04\x00\x00\x00\x00\x00\x00\x00\x00\x00\x00\x00\x00\x00\x20\x00\x01\x02",
+    ),
+    // frame -2 for -1.0, 1.0
+    (
+        "row-24-frame-64",
+        b"\x01\x00\x00\x0A\x02\x00\x00\x00\x04\x00\x00\x00\x00\x00\x00\x00\xFE\xFF\xFF\xFF\xFF\xFF\xFF\xFF\x02\x0D",
+    ),
+];
+
+pub fn run(to: &mut Recorder) -> Result<(), AllocError> {
+    each::<u32>(to, &SINGLE)?;
+    each::<u64>(to, &DOUBLE)
 }

@@ -1,29 +1,29 @@
 // What reader and examiner make of a page.
-use crate::show::{end, line, values32, values64};
-use examiner::{examine32, examine64};
-use reader::{read32, read64};
-use sentences::Output;
+use crate::show::{Recorder, Values, filled, untouched};
+use decimal::value::Value;
+use examiner::examine;
+use reader::read;
+use std::alloc::AllocError;
 
-pub fn both32(to: &mut Output, name: &[u8], page: &[u8]) {
-    let mut out: [u32; 24] = [0xEEEE_EEEE; 24];
-    let read = read32(page, &mut out);
-    line(to, name, b" read ", read);
-    if read.number == 0 {
-        values32(to, &out, read.place);
-    }
-    end(to);
-    line(to, name, b" examine ", examine32(page));
-    end(to);
+// A page under its name.
+pub type Page = (&'static str, &'static [u8]);
+
+// The values that the reader gives, and the examiner's answer.
+pub fn both<V: Value>(to: &mut Recorder, name: &str, page: &[u8]) -> Result<(), AllocError> {
+    let mut out = vec![in to.alloc; untouched::<V>(); 24]?;
+    let answer = read(page, &mut out);
+    to.line(
+        format_args!("{name} read"),
+        answer,
+        Values(filled(&out, answer)),
+    );
+    to.line(format_args!("{name} examine"), examine::<V>(page), "");
+    Ok(())
 }
 
-pub fn both64(to: &mut Output, name: &[u8], page: &[u8]) {
-    let mut out: [u64; 24] = [0xEEEE_EEEE; 24];
-    let read = read64(page, &mut out);
-    line(to, name, b" read ", read);
-    if read.number == 0 {
-        values64(to, &out, read.place);
+pub fn each<V: Value>(to: &mut Recorder, pages: &[Page]) -> Result<(), AllocError> {
+    for (name, page) in pages {
+        both::<V>(to, name, page)?;
     }
-    end(to);
-    line(to, name, b" examine ", examine64(page));
-    end(to);
+    Ok(())
 }

@@ -1,72 +1,76 @@
 // Prints answers, bytes and values.
+use decimal::value::Value;
 use rules::Answer;
-use sentences::Output;
-pub use sentences::{number, text};
+use sentences::{Numbers, Output};
+use std::alloc::Global;
+use std::fmt::Display;
+use std::{fmt, io};
 
-// A name, the call, and the answer's three numbers.
-pub fn line(to: &mut Output, name: &[u8], call: &[u8], a: Answer) {
-    text(to, name);
-    text(to, call);
-    number(to, a.number);
-    text(to, b" ");
-    number(to, a.vector);
-    text(to, b" ");
-    number(to, a.place);
+// Where the lines go, and where the outputs of the calls come from.
+#[derive(Drop)]
+pub struct Recorder {
+    to: Output,
+    pub alloc: Global,
 }
 
-fn byte(to: &mut Output, b: u8) {
-    text(to, b" ");
-    to.show(format_args!("{b:02x}"));
+impl Recorder {
+    pub fn new(to: Output, alloc: Global) -> Recorder {
+        Recorder { to, alloc }
+    }
+
+    // A line: which call, what it answers, and what it gives.
+    pub fn line<N: Display + Drop, G: Display + Drop>(&mut self, call: N, a: Answer, given: G) {
+        self.to.show(format_args!("{call} {}{given}\n", Numbers(a)));
+    }
+
+    pub fn finish(self) -> io::Result<()> {
+        self.to.finish()
+    }
 }
 
-fn value32(to: &mut Output, v: u32) {
-    text(to, b" ");
-    to.show(format_args!("{v:08x}"));
-}
+// Bytes in hexadecimal, a space before each.
+#[derive(Clone, Copy)]
+pub struct Bytes<'a>(pub &'a [u8]);
 
-fn value64(to: &mut Output, v: u64) {
-    text(to, b" ");
-    to.show(format_args!("{v:016x}"));
-}
-
-// The first `count` bytes, and so for values.
-pub fn bytes(to: &mut Output, t: &[u8], count: u64) {
-    for (i, b) in t.iter().enumerate() {
-        if (i as u64) < count {
-            byte(to, *b);
+impl Display for Bytes<'_> {
+    fn fmt<W: fmt::Write>(&self, f: &mut fmt::Formatter<W>) -> fmt::Result {
+        for b in self.0 {
+            let b = *b;
+            write!(f, " {b:02x}")?;
         }
+        Ok(())
     }
 }
 
-pub fn values32(to: &mut Output, t: &[u32], count: u64) {
-    for (i, v) in t.iter().enumerate() {
-        if (i as u64) < count {
-            value32(to, *v);
+// Values by their bits, as the bytes.
+#[derive(Clone, Copy)]
+pub struct Values<'a, V>(pub &'a [V]);
+
+impl<V: Value> Display for Values<'_, V> {
+    fn fmt<W: fmt::Write>(&self, f: &mut fmt::Formatter<W>) -> fmt::Result {
+        let digits = 2 * V::BYTES;
+        for v in self.0 {
+            let bits = v.number();
+            write!(f, " {bits:0digits$x}")?;
         }
+        Ok(())
     }
 }
 
-pub fn values64(to: &mut Output, t: &[u64], count: u64) {
-    for (i, v) in t.iter().enumerate() {
-        if (i as u64) < count {
-            value64(to, *v);
-        }
+pub fn is_done(a: Answer) -> bool {
+    a.number == 0
+}
+
+// The front of an output that a call filled, as many as a done says. A refusal fills nothing.
+pub fn filled<T>(out: &[T], a: Answer) -> &[T] {
+    if is_done(a) {
+        &out[..out.len().min(a.place as usize)]
+    } else {
+        &[]
     }
 }
 
-// One number that tells byte strings apart.
-pub fn checksum(t: &[u8]) -> u64 {
-    let mut sum: u64 = 0;
-    for b in t {
-        sum = next_sum(sum, *b);
-    }
-    sum
-}
-
-fn next_sum(sum: u64, b: u8) -> u64 {
-    (sum % 4294967291 * 31 + b as u64) % 4294967291
-}
-
-pub fn end(to: &mut Output) {
-    text(to, b"\n");
+// What stands in an output before a call: a value of bytes EE.
+pub fn untouched<V: Value>() -> V {
+    V::read(&[0xEE; 8], 0)
 }
