@@ -13,7 +13,7 @@ use decimal::whole::whole;
 
 // Counts of values and of exceptions seen; the stand-in, and the smallest and the largest whole number. The list with stand-ins begins with
 // the stand-in, so these two start there and pass over the exceptions.
-#[derive(Clone, Copy)]
+#[derive(Clone, Copy, Default)]
 pub struct Seen {
     pub count: usize,
     pub listed: usize,
@@ -44,13 +44,7 @@ impl Seen {
     pub fn new() -> Seen
         ensures { as_seen result ≡ nothing }
     {
-        Seen {
-            count: 0,
-            listed: 0,
-            stand_in: 0,
-            smallest: 0,
-            largest: 0,
-        }
+        Seen::default()
     }
 
     // The record of a whole vector.
