@@ -10,17 +10,19 @@ use crate::scan::Seen;
 use decimal::scale::Scale;
 use decimal::value::Value;
 
-// As many as a full column has of 1,024 values each. In shorter vectors it has more: those behind are scanned twice. An array and no `Vec`,
-// since the library takes no memory.
+// As many as a full column has of 1,024 values each. In shorter vectors it has more: those behind are scanned twice.
+const KEPT: usize = 16;
+
+// An array and no `Vec`, since the library takes no memory.
 #[derive(Clone, Copy)]
 pub struct Records {
-    pub of: [Seen; 16],
+    pub of: [Seen; KEPT],
 }
 
 impl Records {
     pub fn new() -> Records {
         Records {
-            of: [Seen::new(); 16],
+            of: [Seen::new(); KEPT],
         }
     }
 
@@ -29,7 +31,7 @@ impl Records {
         ensures { result.of ≡ set self.of i seen }
     {
         let mut of = self.of;
-        if i < 16 {
+        if i < KEPT {
             of[i] = seen;
         }
         Records { of }
@@ -40,7 +42,7 @@ impl Records {
         requires { Short (length values.now) × RecordedAt as_seen self.of i (seen_of (tries (format_of V.KIND) (as_pair scale.now.pair) (V.as_numbers values.now))) }
         ensures { as_seen result ≡ seen_of (tries (format_of V.KIND) (as_pair scale.now.pair) (V.as_numbers values.now)) }
     {
-        if i < 16 {
+        if i < KEPT {
             return self.of[i];
         }
         Seen::of(values, scale)
