@@ -3,11 +3,11 @@ use mathlib.Core.Path.{◌≡◌, refl, sym, ap, ◌∙◌, subst}
 use mathlib.Core.Bool.{Bool, true, false, not, cond}
 use mathlib.Core.List.{List, [], ◌∷◌, ◌++◌, append-nil}
 use mathlib.Core.Option.{Option, none, some}
-use Prim.Native.Nat.{ℕ, suc, ◌+◌, ◌-◌, ◌*◌, ◌≤◌, min}
+use Prim.Native.Nat.{ℕ, suc, ◌+◌, ◌*◌, ◌≤◌}
 use native.Mathlib.Nat.{add-zero, zero-mul, mul-add}
 use native.Mathlib.Numerals.{add-one}
 use native.Mathlib.Omega.{arith}
-use lib.ListN.{length, take, drop, take-append-drop, drop_of_length-le, length-append, length-map, length-take, length-drop}
+use lib.ListN.{length, take, drop, take-append-drop, drop_of_length-le, length-append, length-map}
 use lib.Dec.{T}
 use lib.IntN.{ℤ}
 use Rattle.std.specs.Prelude as std
@@ -15,11 +15,9 @@ use Rattle.std.specs.Prelude.{Some, None}
 use Rattle.std.specs.Option.{is_some}
 use lib.Ieee.{Format, of_bits}
 use Rattle.digits.specs.Digits.{le, les}
-use borrow.Rule.Slice.PartMut.{put_mid}
-use Rattle.digits.specs.Lists.{over, put_at}
+use Rattle.digits.specs.Lists.{put_at}
 use Rattle.digits.proofs.Rows.{length-le, length-les, les-append}
-use Rattle.digits.proofs.Stream.{Stream, stream_start, stream_as, stream_room, stream_wrote, stream_end, stage_mid}
-use Rattle.digits.proofs.Lists.{length_over}
+use Rattle.digits.proofs.Stream.{Stream, stream_start, stream_as, stream_room, stream_wrote, stream_end}
 use Rattle.rules.proofs.Encoded.{picks-paired}
 use Rattle.rules.proofs.Tries.{none_excepted, some_kept}
 use Rattle.rules.specs.Decimal.{Pair, exception, tried, whole, scaled}
@@ -130,7 +128,7 @@ module _ {rest : ℕ → List ℕ} {i : ℕ} {out out₀ : List ℕ} {at : ℕ} 
       let full = s.full in
       q.1 ∙ ap (λ (x : List ℕ). rest 0 ++ x) (drop_of_length-le out₀ {i = at} (omega (arith, full, q.0))) ∙ append-nil (rest 0)
 
--- ---- both lists, into a part that they fill
+-- ---- both lists, into two parts that they fill
 
 module _ (fmt : Format) (p : Pair) (vs : List ℕ) (k listed : ℕ) (d : List ℕ) (e : listed ≡ length (places 0 (tries fmt p vs))) (l : length d ≡ listed * (2 + k)) where
   abbrev positions : List ℕ
@@ -161,21 +159,8 @@ module _ (fmt : Format) (p : Pair) (vs : List ℕ) (k listed : ℕ) (d : List �
       no_elements [] q = refl
       no_elements (x ∷ xs) q = absurd (omega (arith, q))
 
-  pub first-room : length (take (listed * 2) d) ≡ length positions
-  first-room = length-take (listed * 2) d ∙ omega (arith, sum, long-positions)
+  pub first-room : (front : List ℕ) → length front ≡ listed * 2 → length front ≡ length positions
+  first-room front n = n ∙ sym long-positions
 
-  -- what the first call leaves, and the second
-  module _ (last : List ℕ) (w : last ≡ positions) where
-    pub first-put : put_mid 0 (listed * 2) d last ≡ over positions d
-    first-put = stage_mid [] positions d d 0 refl refl last (listed * 2) (omega (arith, long-positions)) w
-
-    pub second_room : length (take (length (put_mid 0 (listed * 2) d last) - listed * 2) (drop (listed * 2) (put_mid 0 (listed * 2) d last))) ≡ length patterns
-    second_room = rw first-put (length-take (length (over positions d) - listed * 2) (drop (listed * 2) (over positions d))
-        ∙ ap (λ (n : ℕ). min (length (over positions d) - listed * 2) n) (length-drop (listed * 2) (over positions d)) ∙ omega (arith, length_over positions d (omega (arith, sum)), sum, long-positions))
-
-    pub lists-put : (last' : List ℕ) → last' ≡ patterns
-        → put_mid (listed * 2) (length (put_mid 0 (listed * 2) d last) - listed * 2) (put_mid 0 (listed * 2) d last) last' ≡ positions ++ patterns
-    lists-put last' w' =
-        let n : length (put_mid 0 (listed * 2) d last) ≡ length d = ap length first-put ∙ length_over positions d (omega (arith, sum)) in
-        stage_mid positions patterns d (put_mid 0 (listed * 2) d last) (listed * 2) first-put long-positions last' (length (put_mid 0 (listed * 2) d last) - listed * 2) (omega (arith, n, sum, long-positions)) w'
-        ∙ ap (λ (x : List ℕ). (positions ++ patterns) ++ x) (drop_of_length-le d {i = length (positions ++ patterns)} (omega (arith, length-append positions patterns, sum))) ∙ append-nil (positions ++ patterns)
+  pub second_room : (back : List ℕ) → length back + listed * 2 ≡ length d → length back ≡ length patterns
+  second_room back n = omega (arith, n, sum, long-positions)

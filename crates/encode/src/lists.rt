@@ -24,25 +24,20 @@ fn put_entry<W: Word>(out: &mut [u8], at: usize, word: W, listed: bool) -> usize
     at
 }
 
-// All positions, into a part that they fill.
-fn put_positions<V: Value>(values: &[V], scale: &Scale<V>, out: &mut [u8])
-    requires { Short (length values.now) × (length out.old ≡ length (les 2 (places 0 (tries (format_of V.KIND) (as_pair scale.now.pair) (V.as_numbers values.now))))) }
-    ensures { out.new ≡ les 2 (places 0 (tries (format_of V.KIND) (as_pair scale.now.pair) (V.as_numbers values.now))) }
+// Each list into a part that it fills, by one try of each value.
+fn put_lists<V: Value>(values: &[V], scale: &Scale<V>, positions: &mut [u8], patterns: &mut [u8])
+    requires short { Short (length values.now) }
+    requires room { length positions.old ≡ length (les 2 (places 0 (tries (format_of V.KIND) (as_pair scale.now.pair) (V.as_numbers values.now)))) }
+    requires patterns_room { length patterns.old ≡ length (les V.BYTES (picks (tries (format_of V.KIND) (as_pair scale.now.pair) (V.as_numbers values.now)) (V.as_numbers values.now))) }
+    ensures positions { positions.new ≡ les 2 (places 0 (tries (format_of V.KIND) (as_pair scale.now.pair) (V.as_numbers values.now))) }
+    ensures patterns { patterns.new ≡ les V.BYTES (picks (tries (format_of V.KIND) (as_pair scale.now.pair) (V.as_numbers values.now)) (V.as_numbers values.now)) }
 {
     let mut at: usize = 0;
+    let mut to: usize = 0;
     for (position, value) in values.iter().enumerate() {
-        at = put_entry(out, at, position as u16, whole(*value, scale).is_none());
-    }
-}
-
-// All exceptions' bits, into a part that they fill.
-fn put_all_bits<V: Value>(values: &[V], scale: &Scale<V>, out: &mut [u8])
-    requires { length out.old ≡ length (les V.BYTES (picks (tries (format_of V.KIND) (as_pair scale.now.pair) (V.as_numbers values.now)) (V.as_numbers values.now))) }
-    ensures { out.new ≡ les V.BYTES (picks (tries (format_of V.KIND) (as_pair scale.now.pair) (V.as_numbers values.now)) (V.as_numbers values.now)) }
-{
-    let mut at: usize = 0;
-    for value in values {
-        at = put_entry(out, at, *value, whole(*value, scale).is_none());
+        let listed = whole(*value, scale).is_none();
+        at = put_entry(positions, at, position as u16, listed);
+        to = put_entry(patterns, to, *value, listed);
     }
 }
 
@@ -56,7 +51,6 @@ pub fn put_exceptions<V: Value>(values: &[V], scale: &Scale<V>, listed: usize, o
     if listed == 0 {
         return;
     }
-    let half = listed * 2;
-    put_positions(values, scale, &mut out[..half]);
-    put_all_bits(values, scale, &mut out[half..]);
+    let (positions, patterns) = out.split_at_mut(listed * 2);
+    put_lists(values, scale, positions, patterns);
 }
