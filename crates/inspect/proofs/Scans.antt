@@ -1,10 +1,12 @@
 -- Scans of a vector's positions, over the kind: for a row, for the stand-in, for the smallest whole number and the largest field.
 -- Assumes nothing.
-use Rattle.std.proofs.Common.{◌≡◌, ℕ, ◌+◌, ◌*◌, ◌^◌, ◌<◌, ◌≤◌, max, Bool, true, false, List, ◌∷◌, get_or, drop, ℤ, pos, sym, refl, ap, ◌∙◌, subst, ap₂, negsuc, add-one, arith, drop_of_length-le, drop-cons}
+use Rattle.std.proofs.Common.{◌≡◌, ℕ, ◌+◌, ◌*◌, ◌^◌, ◌<◌, ◌≤◌, max, Bool, true, false, List, [], ◌∷◌, get_or, drop, ℤ, pos, sym, refl, ap, ◌∙◌, subst, ap₂, negsuc, add-one, arith, drop_of_length-le}
 use Rattle.std.specs.Prelude as std
-use Rattle.std.specs.Prelude.{Some, None, is_some}
+use Rattle.std.specs.Prelude.{Some, None, is_some, unwrap_or, map}
 use Rattle.std.specs.Bool.{then_some}
-use Rattle.std.specs.Int.{int_min}
+use Rattle.std.specs.List.{fold, reduce, range_with_len}
+use Rattle.std.proofs.lemmas.List.FromFn.{fill_by_all}
+use Rattle.std.specs.Ordering.{int_cmp, min_by_ordering}
 use mathlib.Core.List.{zip_with}
 use mathlib.Core.Option.{Option}
 use lib.Ieee.{Format}
@@ -107,40 +109,40 @@ module _ (fmt : Format) (r : Raw) where
 
 -- ---- for the smallest whole number, and for the largest field
 
-lesser-is : (x z : ℤ) → lesser x z ≡ int_min x z
-lesser-is (pos a) (pos b) = grind arith
-lesser-is (pos a) (negsuc b) = refl
-lesser-is (negsuc a) (pos b) = refl
-lesser-is (negsuc a) (negsuc b) = grind arith
+pub lesser-picked : (x z : ℤ) → min_by_ordering (int_cmp x z) x z ≡ lesser x z
+lesser-picked (pos a) (pos b) = grind arith
+lesser-picked (pos a) (negsuc b) = refl
+lesser-picked (negsuc a) (pos b) = refl
+lesser-picked (negsuc a) (negsuc b) = grind arith
 
-module _ (fmt : Format) (r : Raw) where
-  pub least-none : r.count ≡ 0 → pos 0 ≡ least (wholes fmt r)
-  unfolding least
-  least-none h = sym (ap least (drop_of_length-le (wholes fmt r) {i = 0} (omega (arith, wholes-count fmt r))))
+least-fold : (x : ℤ) (zs : List ℤ) → fold lesser x zs ≡ least_of x zs
+unfolding least_of
+least-fold x [] = refl
+least-fold x (z ∷ zs) = least-fold (lesser x z) zs
 
-  pub least_first : 0 < r.count → (x : ℤ) → x ≡ get_or (wholes fmt r) 0 (pos 0) → least (wholes fmt r) ≡ least_of x (drop 1 (wholes fmt r))
-  unfolding least
-  least_first h x e = ap least (some_whole fmt r 0 h) ∙ ap (λ (z : ℤ). least_of z (drop 1 (wholes fmt r))) (sym e)
+least-found : (zs : List ℤ) → unwrap_or (reduce lesser zs) (pos 0) ≡ least zs
+unfolding least
+least-found [] = refl
+least-found (z ∷ zs) = least-fold z zs
 
-  module _ (i : ℕ) (x : ℤ) (e : least (wholes fmt r) ≡ least_of x (drop i (wholes fmt r))) where
-    pub least-next : i < r.count → (y : ℤ) → y ≡ int_min x (get_or (wholes fmt r) i (pos 0)) → least (wholes fmt r) ≡ least_of y (drop (i + 1) (wholes fmt r))
-    unfolding least_of
-    least-next more y ey =
-        let z = get_or (wholes fmt r) i (pos 0) in
-        e ∙ ap (least_of x) (some_whole fmt r i more) ∙ ap (λ (k : ℤ). least_of k (drop (i + 1) (wholes fmt r))) (lesser-is x z ∙ sym ey)
+-- the smallest whole number, of those position by position
+pub smallest-found : (fmt : Format) (r : Raw) → unwrap_or (reduce lesser (map (λ i. get_or (wholes fmt r) i (pos 0)) (range_with_len 0 r.count))) (pos 0) ≡ least (wholes fmt r)
+smallest-found fmt r =
+    ap (λ (zs : List ℤ). unwrap_or (reduce lesser zs) (pos 0)) (sym (fill_by_all (λ i. get_or (wholes fmt r) i (pos 0)) (wholes fmt r) r.count (pos 0) (wholes-count fmt r) (λ k h. refl)))
+    ∙ least-found (wholes fmt r)
 
-    pub least-end : r.count ≤ i → x ≡ least (wholes fmt r)
-    unfolding least_of
-    least-end h = sym (e ∙ ap (least_of x) (drop_of_length-le (wholes fmt r) {i = i} (omega (arith, wholes-count fmt r))))
+greatest-fold : (x : ℕ) (xs : List ℕ) → fold max x xs ≡ max x (greatest xs)
+unfolding greatest
+greatest-fold x [] = omega arith
+greatest-fold x (y ∷ ys) = let q = greatest-fold (max x y) ys in omega (arith, q)
 
-module _ (r : Raw) (i a : ℕ) (e : greatest (fields r) ≡ max a (greatest (drop i (fields r)))) where
-  pub greatest-next : i < r.count → (b : ℕ) → b ≡ max a (get_or (fields r) i 0) → greatest (fields r) ≡ max b (greatest (drop (i + 1) (fields r)))
-  unfolding greatest
-  greatest-next more b eb =
-      let here : drop i (fields r) ≡ get_or (fields r) i 0 ∷ drop (i + 1) (fields r) = rw add-one (drop-cons (fields r) i 0 (omega (arith, fields-count r))) in
-      let q = ap greatest here in
-      omega (arith, e, q, eb)
+greatest-found : (xs : List ℕ) → unwrap_or (reduce max xs) 0 ≡ greatest xs
+unfolding greatest
+greatest-found [] = refl
+greatest-found (x ∷ xs) = greatest-fold x xs
 
-  pub greatest-end : r.count ≤ i → a ≡ greatest (fields r)
-  unfolding greatest
-  greatest-end h = let q = ap greatest (drop_of_length-le (fields r) {i = i} (omega (arith, fields-count r))) in omega (arith, e, q)
+-- the largest field, of the fields position by position
+pub largest-found : (r : Raw) → unwrap_or (reduce max (map (λ i. get_or (fields r) i 0) (range_with_len 0 r.count))) 0 ≡ greatest (fields r)
+largest-found r =
+    ap (λ (xs : List ℕ). unwrap_or (reduce max xs) 0) (sym (fill_by_all (λ i. get_or (fields r) i 0) (fields r) r.count 0 (fields-count r) (λ k h. refl)))
+    ∙ greatest-found (fields r)

@@ -65,25 +65,17 @@ impl<'a, V: Value> Vector<'a, V> {
     fn smallest(&self) -> i64
         ensures { result ≡ least (wholes (format_of V.KIND) (raw_of self.now)) }
     {
-        if self.count == 0 {
-            return 0;
-        }
-        let mut smallest = self.word_at(0).signed();
-        for i in 1..self.count {
-            smallest = smallest.min(self.word_at(i).signed());
-        }
-        smallest
+        (0..self.count)
+            .map(|i| self.word_at(i).signed())
+            .min()
+            .unwrap_or(0)
     }
 
-    // The largest field.
+    // The largest field, or 0 if there is none.
     fn largest(&self) -> u64
         ensures { result ≡ greatest (fields (raw_of self.now)) }
     {
-        let mut largest: u64 = 0;
-        for i in 0..self.count {
-            largest = largest.max(self.field_at(i));
-        }
-        largest
+        (0..self.count).map(|i| self.field_at(i)).max().unwrap_or(0)
     }
 
     // 24: frame not the smallest, or width not the fewest bits.

@@ -1,11 +1,16 @@
--- `walk::Vector::largest` meets its contract: the largest of all is that of the field held and the fields from i on. Assumes nothing.
-use Rattle.std.proofs.Common.{arith, ◌∙◌, ap, max}
+-- `walk::Vector::largest` meets its contract: the chain gives the fields. Assumes nothing.
+use Rattle.std.proofs.Common.{arith, unwrap_or, sym, ap, ◌∙◌, get_or, rules, tests}
+use Rattle.std.proofs.lemmas.Iterator.{YieldsList-from_range, YieldsList-from_map}
+use Rattle.std.proofs.lemmas.Iterator.Adapters.{option_map_id}
+use Rattle.std.proofs.lemmas.Iterator.Consumers.{max_from_yields_List}
+use Rattle.rules.specs.Vector.{fields}
 use Rattle.inspect.specs.Looked.{raw_of}
-use Rattle.inspect.proofs.Scans.{greatest-next, greatest-end}
+use Rattle.inspect.proofs.Scans.{largest-found}
 use Rattle.inspect.proofs.walk.Vector.largest.Goals as goal
 
-pub loop-i-preserved : goal.loop-i-preserved
-loop-i-preserved g c = let l = c.loop-i in (omega arith, greatest-next (raw_of c.args.self.now) l.i l.largest l.invariant.1 c.loop-i-test.true c.max-largest.result (c.max-largest.ensures ∙ ap (max l.largest) c.field_at.ensures))
-
 pub returns : goal.returns
-returns g c = let l = c.loop-i in greatest-end (raw_of c.args.self.now) l.i l.largest l.invariant.1 c.loop-i-test.false
+returns g c =
+    let r = raw_of c.args.self.now in
+    c.unwrap_or.ensures
+    ∙ ap (λ o. unwrap_or o 0) (sym (option_map_id _) ∙ max_from_yields_List _ _ c.max.ensures.ran (YieldsList-from_map _ (λ i. get_or (fields r) i 0) (YieldsList-from_range 0 r.count r.count c.map.ensures.source (omega arith)) c.map.ensures.closure (λ i b q k. search (rules, tests))))
+    ∙ largest-found r

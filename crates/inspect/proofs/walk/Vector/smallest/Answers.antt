@@ -1,30 +1,19 @@
--- `walk::Vector::smallest` meets its contract: the smallest of all is that of the number held and the whole numbers from i on. Assumes nothing.
-use Rattle.std.proofs.Common.{arith, ap, ◌∙◌, w64, to_z, of_z, to_z-of_z}
-use Rattle.std.specs.Int.{int_min}
+-- `walk::Vector::smallest` meets its contract: the chain gives the whole numbers. Assumes nothing.
+use Rattle.std.proofs.Common.{arith, unwrap_or, sym, ap, ◌∙◌, get_or, pos, w64, to_z-of_z, rules, tests}
+use Rattle.std.specs.Ordering.{int_cmp, min_by_ordering}
+use Rattle.std.proofs.lemmas.Iterator.{YieldsList-from_range, YieldsList-from_map}
+use Rattle.std.proofs.lemmas.Iterator.Adapters.{option_map_id}
+use Rattle.std.proofs.lemmas.Iterator.Consumers.{reduce_by_from_yields_List}
+use Rattle.rules.specs.Coded.{format_of}
+use Rattle.rules.specs.Vector.{lesser, wholes}
 use Rattle.inspect.specs.Looked.{raw_of}
-use Rattle.inspect.proofs.Scans.{least-none, least_first, least-next, least-end}
+use Rattle.inspect.proofs.Scans.{lesser-picked, smallest-found}
 use Rattle.inspect.proofs.walk.Vector.smallest.Goals as goal
 
-pub returns-then-self-eq0 : goal.returns-then-self-eq0
-returns-then-self-eq0 g c = least-none _ (raw_of c.args.self.now) c.if-self-eq0.true
-
-pub loop-i-init : goal.loop-i-init
-loop-i-init g c =
-    let first = c.signed-smallest in (
-      omega (arith, c.if-self-eq0.false),
-      least_first _ (raw_of c.args.self.now) (omega (arith, c.if-self-eq0.false)) (to_z w64 (of_z w64 first.result)) (to_z-of_z {w = w64} {z = first.result} (record { sfits = first.type_inv }) ∙ first.ensures ∙ c.word_at.ensures),
-    )
-
-pub loop-i-preserved : goal.loop-i-preserved
-loop-i-preserved g c =
-    let l = c.loop-i in
-    let m = c.min-smallest in
-    let z = c.signed in (
-      omega arith,
-      least-next _ (raw_of c.args.self.now) l.i (to_z w64 l.smallest-bits) l.invariant.1 c.loop-i-test.true (to_z w64 (of_z w64 m.result))
-          (to_z-of_z {w = w64} {z = m.result} (record { sfits = m.type_inv }) ∙ m.ensures.value
-          ∙ ap (int_min (to_z w64 l.smallest-bits)) (to_z-of_z {w = w64} {z = z.result} (record { sfits = z.type_inv }) ∙ z.ensures ∙ c.word_at-in-loop-i.ensures)),
-    )
-
 pub returns : goal.returns
-returns g c = let l = c.loop-i in least-end _ (raw_of c.args.self.now) l.i (to_z w64 l.smallest-bits) l.invariant.1 c.loop-i-test.false
+returns g c =
+    let r = raw_of c.args.self.now in
+    let zs = wholes (format_of g.V.Value.KIND) r in
+    to_z-of_z {w = w64} {z = c.unwrap_or.result} (record { sfits = c.unwrap_or.type_inv }) ∙ c.unwrap_or.ensures
+    ∙ ap (λ o. unwrap_or o (pos 0)) (sym (option_map_id _) ∙ reduce_by_from_yields_List {v = λ z. z} (λ p z. min_by_ordering (int_cmp p z) p z) lesser _ _ lesser-picked c.min.ensures.ran (YieldsList-from_map _ (λ i. get_or zs i (pos 0)) (YieldsList-from_range 0 r.count r.count c.map.ensures.source (omega arith)) c.map.ensures.closure (λ i z q k. search (rules, tests))))
+    ∙ smallest-found (format_of g.V.Value.KIND) r
