@@ -45,6 +45,7 @@ impl<'a, V: Value> Vector<'a, V> {
     pub fn stand_in(&self) -> i64
         ensures { result ≡ stand_in_as (format_of V.KIND) (raw_of self.now) }
     {
+        // A `for`: of a position that `find` gives, the check does not see that it is below the count.
         for i in 0..self.count {
             if self.listed_at(i, i).is_none() {
                 return self.word_at(i).signed();
