@@ -43,7 +43,7 @@ pub fn eight_each<W: Word>(packed: &[u8], width: usize, out: &mut [W])
     each(width, out, |start| eight_from(packed, start));
 }
 
-// Fields of any width, each from 9 bytes. It stays apart from the one above: which of the two a width takes is asked once and not at each field.
+// Fields of any width, each from 9 bytes.
 pub fn nine_each<W: Word>(packed: &[u8], width: usize, out: &mut [W])
     requires { (width ≤ 64) × (width ≤ 8 * W.BYTES) × (length out.old < 2 ^ 32) × Room 9 width (length out.old) (length packed.now) }
     ensures { W.as_numbers out.new ≡ unpack width (length out.old) packed.now }
