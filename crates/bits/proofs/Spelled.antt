@@ -1,10 +1,13 @@
 -- Bytes taken from the last one down: the word so far is what those taken spell. Assumes nothing.
-use mathlib.Core.Path.{◌≡◌, refl, sym, ap, ap₂, ◌∙◌}
-use mathlib.Core.List.{List, [], ◌∷◌, ◌++◌, append_assoc, append-nil}
-use Prim.Native.Nat.{ℕ, ◌+◌, ◌-◌, ◌*◌, ◌^◌, ◌≤◌, ◌<◌}
+use mathlib.Core.Path.{◌≡◌, refl, sym, ap, ◌∙◌}
+use mathlib.Core.List.{List, [], ◌∷◌, ◌++◌, append_assoc}
+use Prim.Native.Nat.{ℕ, suc, ◌+◌, ◌-◌, ◌*◌, ◌^◌, ◌≤◌, ◌<◌}
+use native.Mathlib.Numerals.{add-one}
 use native.Mathlib.Omega.{arith}
-use lib.ListN.{length, drop, length-drop}
-use lib.Seq.{drop_at}
+use lib.ListN.{length, take, drop, get_or, length-drop}
+use mathlib.Core.List.{reverse}
+use Rattle.std.proofs.lemmas.List.{reverse-append, reverse-reverse, take-append-drop}
+use lib.Seq.{drop_at, drop-cons}
 use Rattle.digits.specs.Digits.{of_digits, number, Below}
 use Rattle.digits.proofs.Laws.{below_drop, of_drop_lt}
 use Rattle.digits.proofs.Lists.{lent, lent_is}
@@ -14,10 +17,6 @@ pub record Spelled (bs rest : List ℕ) (word : ℕ) : Type 0 where
   pub taken : List ℕ
   pub whole : rest ++ taken ≡ bs
   pub is : word ≡ number taken
-
-pub spelled_start : (bs : List ℕ) → Spelled bs bs 0
-unfolding of_digits
-spelled_start bs = record { taken = []; whole = append-nil bs; is = refl }
 
 module _ (bs rest rest' : List ℕ) (word b : ℕ) (s : Spelled bs rest word) (e : rest ≡ rest' ++ (b ∷ [])) where
   pub spelled_next : Spelled bs rest' (word * 256 + b)
@@ -38,6 +37,16 @@ module _ (bytes : List ℕ) (at : ℕ) (below : Below 256 bytes) (few : length b
       let long : length bs - length rest' ≤ 8 = rw (lent_is at bytes, length-drop) (omega arith) in
       rw (n.is, sym (ap (drop (length rest')) (sym n.whole) ∙ drop_at rest' n.taken (length rest') refl)) (of_drop_lt 256 bs (length rest') 8 all long)
 
-pub spelled_end : (bs rest : List ℕ) (word : ℕ) → Spelled bs rest word → length rest ≡ 0 → word ≡ number bs
-spelled_end bs rest word s e =
-    s.is ∙ ap number (sym (drop_at rest s.taken (length rest) refl) ∙ ap₂ (λ (n : ℕ) (l : List ℕ). drop n l) e s.whole)
+-- the last n bytes are taken, the last of them first, and then the one before them
+pub spelled_back : (bs ys : List ℕ) (n word : ℕ) → word ≡ number (reverse ys) → ys ≡ take n (reverse bs) → Spelled bs (reverse (drop n (reverse bs))) word
+spelled_back bs ys n word e so_far = record {
+  taken = reverse ys;
+  whole = ap (λ (l : List ℕ). reverse (drop n (reverse bs)) ++ reverse l) so_far ∙ sym (reverse-append (take n (reverse bs)) (drop n (reverse bs)))
+      ∙ ap reverse (take-append-drop n (reverse bs)) ∙ reverse-reverse bs;
+  is = e;
+}
+
+pub turn_back : (bs : List ℕ) (n b : ℕ) → n < length (reverse bs) → b ≡ get_or (reverse bs) n b → reverse (drop n (reverse bs)) ≡ reverse (drop (n + 1) (reverse bs)) ++ (b ∷ [])
+turn_back bs n b h e =
+    rw add-one
+    (ap reverse (drop-cons (reverse bs) n b h ∙ ap (λ (x : ℕ). x ∷ drop (suc n) (reverse bs)) (sym e)) ∙ reverse-append (b ∷ []) (drop (suc n) (reverse bs)))

@@ -1,6 +1,6 @@
 -- A list of words, seen as the list of their numbers: what `one_by_one` gives for its length, its parts, and an element read or stored.
 -- Assumes nothing.
-use Rattle.std.proofs.Common.{◌≡◌, ℕ, zero, suc, ◌<◌, List, [], ◌∷◌, ◌++◌, length, get_or, take, drop, set, replicate, map, refl, sym, ap, ap₂, ◌∙◌}
+use Rattle.std.proofs.Common.{◌≡◌, ℕ, ◌<◌, List, [], ◌∷◌, ◌++◌, length, get_or, take, drop, set, map, sym, ap, ap₂, ◌∙◌}
 use Rattle.std.proofs.lemmas.List.{length-map, map-append, take-map, drop-map, map-set, get_or-map}
 use borrow.Rule.Slice.PartMut.{put_mid}
 use Rattle.bits.specs.Words.{WordLaws}

@@ -1,3 +1,4 @@
 pub mod Above
+pub mod Fetched
 pub mod Room
 pub mod Words

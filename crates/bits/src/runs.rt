@@ -1,8 +1,9 @@
 // Fields one after the other where whole words are there: the room is worked out once and the mask made once, so that each field is one
 // load, a shift and an `&`. Fields of width 0 have no bytes at all.
-ghost use Rattle.std.specs.Prelude.{◌≡◌, ℕ, ◌*◌, ◌^◌, ◌≤◌, ◌<◌, length, replicate};
+ghost use Rattle.std.specs.Prelude.{◌≡◌, ℕ, ◌*◌, ◌^◌, ◌≤◌, ◌<◌, List, length, replicate};
 ghost use Rattle.digits.specs.Digits.{packed_size, unpack};
 ghost use Rattle.bits.specs.Above.{NoneAbove};
+ghost use Rattle.bits.specs.Fetched.{MayFetch, Fetches};
 ghost use Rattle.bits.specs.Room.{Room};
 
 use crate::word::Word;
@@ -21,30 +22,33 @@ pub fn roomy(count: usize, width: usize, reach: usize) -> usize
     count.min(most)
 }
 
+// Fields one after the other: `from` is asked for the bits from a field's first on, of which the mask keeps the field.
+fn each<W: Word, F: Fn(usize) -> u64>(width: usize, out: &mut [W], from: F)
+    requires { (width ≤ 64) × (width ≤ 8 * W.BYTES) × (length out.old < 2 ^ 32) × MayFetch width (length out.old) (F.pre from) }
+    ensures { (bytes : List ℕ) → Fetches width (length out.old) bytes (F.post from) → W.as_numbers out.new ≡ unpack width (length out.old) bytes }
+{
+    let mask = mask_of(width);
+    let mut start: usize = 0;
+    for place in out.iter_mut() {
+        *place = W::from_number(from(start) & mask);
+        start += width;
+    }
+}
+
 // Fields of up to 57 bits, each from 8 bytes.
 pub fn eight_each<W: Word>(packed: &[u8], width: usize, out: &mut [W])
     requires { (width ≤ 57) × (width ≤ 8 * W.BYTES) × (length out.old < 2 ^ 32) × Room 8 width (length out.old) (length packed.now) }
     ensures { W.as_numbers out.new ≡ unpack width (length out.old) packed.now }
 {
-    let mask = mask_of(width);
-    let mut start: usize = 0;
-    for place in out.iter_mut() {
-        *place = W::from_number(eight_from(packed, start) & mask);
-        start += width;
-    }
+    each(width, out, |start| eight_from(packed, start));
 }
 
-// Fields of any width, each from 9 bytes. It stays apart from the one above: which of the two a width takes is asked once and not at each field.
+// Fields of any width, each from 9 bytes.
 pub fn nine_each<W: Word>(packed: &[u8], width: usize, out: &mut [W])
     requires { (width ≤ 64) × (width ≤ 8 * W.BYTES) × (length out.old < 2 ^ 32) × Room 9 width (length out.old) (length packed.now) }
     ensures { W.as_numbers out.new ≡ unpack width (length out.old) packed.now }
 {
-    let mask = mask_of(width);
-    let mut start: usize = 0;
-    for place in out.iter_mut() {
-        *place = W::from_number(nine_from(packed, start) & mask);
-        start += width;
-    }
+    each(width, out, |start| nine_from(packed, start));
 }
 
 // How many of the fields, from the first on, are surely not above `most`: each from 9 bytes, up to the first that is above.

@@ -45,9 +45,8 @@ pub fn word_at(bytes: &[u8], at: usize) -> u64
     if 8 <= bytes.len() - at {
         return u64::read(bytes, at);
     }
-    let mut word: u64 = 0;
-    for byte in bytes[at..].iter().rev() {
-        word = word * 256 + (*byte as u64);
-    }
-    word
+    bytes[at..]
+        .iter()
+        .rev()
+        .fold(0, |word, byte| word * 256 + (*byte as u64))
 }
