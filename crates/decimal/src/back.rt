@@ -16,12 +16,19 @@ pub fn back<V: Value>(whole: V, scale: &Scale<V>) -> V
     V::bits_of(V::two_products(whole.nearest(), scale.up_f, scale.down_e))
 }
 
-// The reading rule at each field of a lent slice, in place. The sums are known to stay in the signed range (row 17): so the words may be
-// added modulo 2^W.
+// The reading rule at one field, whose sum with the frame is known to stay in the signed range (row 17): so the words may be added modulo
+// 2^W.
+pub fn value_of<V: Value>(frame: V, field: V, scale: &Scale<V>) -> V
+    ensures { V.as_number result ≡ turned (format_of V.KIND) (as_pair scale.now.pair) (V.as_number frame) (V.as_number field) }
+{
+    back(frame.wrapping_sum(field), scale)
+}
+
+// The same of each field of a lent slice, in place.
 pub fn turn<V: Value>(out: &mut [V], frame: V, scale: &Scale<V>)
     ensures { V.as_numbers out.new ≡ map (turned (format_of V.KIND) (as_pair scale.now.pair) (V.as_number frame)) (V.as_numbers out.old) }
 {
     for place in out.iter_mut() {
-        *place = back(frame.wrapping_sum(*place), scale);
+        *place = value_of(frame, *place, scale);
     }
 }
