@@ -1,7 +1,8 @@
 -- The conditions of row 22 at one position, and row 24's, as the code finds them, over the kind. Assumes nothing.
-use Rattle.std.proofs.Common.{◌≡◌, ℕ, ◌+◌, ◌*◌, ◌^◌, ◌<◌, not, ◌||◌, List, get_or, take, drop, ℤ, sym, refl, ap, ◌∙◌, mul_comm, drop-drop, pow_pos, to_z-of_z, to_z, of_z, eq-eqb, ne_eqb}
+use Rattle.std.proofs.Common.{◌≡◌, ℕ, ◌+◌, ◌*◌, ◌^◌, ◌<◌, true, false, not, ◌||◌, List, get_or, take, drop, ℤ, sym, refl, ap, ◌∙◌, mul_comm, drop-drop, pow_pos, to_z-of_z, to_z, of_z, eq-eqb, ne_eqb}
 use Rattle.std.specs.Prelude as std
 use Rattle.std.specs.Prelude.{Some, None, is_some}
+use Rattle.std.proofs.lemmas.Bool.{false≢true, true≢false}
 use mathlib.Core.Option.{Option, none, some}
 use lib.Signed.{mag}
 use lib.Ieee.{Format, size}
@@ -16,11 +17,21 @@ use Rattle.rules.specs.Decimal.{Pair, exception, tried}
 use Rattle.rules.specs.Vector.{Raw, least, greatest, width_of, fields, wholes}
 use Rattle.rules.specs.Page.{Meta}
 use Rattle.rules.specs.Verdict.{fine, refuse, verdict, row, in_vector, ◌isnt◌}
-use Rattle.rules.specs.Examine.{needless, frame_off, width_off}
+use Rattle.rules.specs.Examine.{needless, unfilled, frame_off, width_off}
 use Rattle.rules.proofs.Order.{least-one}
 use Rattle.rules.proofs.Tries.{Held, some_kept, none_excepted}
 use Rattle.decimal.specs.Turn.{as_try}
-use Rattle.inspect.specs.Seen.{seen, FieldsLaid}
+use Rattle.inspect.specs.Seen.{seen, FieldsLaid, mark_of, mark_at}
+
+-- ---- an index that may be there: what is stored counts only in row 22
+
+pub marked_if : (d z : ℤ) (x : ℕ) (xs : List ℕ) (o : std.Option ℕ) → is_some o ≡ true → unfilled d z (mark_of true x) ≡ unfilled d z (mark_at xs o)
+marked_if d z x xs (Some j) e = refl
+marked_if d z x xs None e = absurd (false≢true e)
+
+pub unmarked_if : (x : ℕ) (xs : List ℕ) (o : std.Option ℕ) → is_some o ≡ false → mark_of false x ≡ mark_at xs o
+unmarked_if x xs (Some j) e = absurd (true≢false e)
+unmarked_if x xs None e = refl
 
 -- ---- 22, which asks for no whole number
 

@@ -1,6 +1,6 @@
 -- Scans of a vector's positions, over the kind: for a row, for the stand-in, for the smallest whole number and the largest field.
 -- Assumes nothing.
-use Rattle.std.proofs.Common.{◌≡◌, ℕ, ◌+◌, ◌*◌, ◌^◌, ◌<◌, ◌≤◌, max, Bool, true, false, List, [], ◌∷◌, get_or, drop, ℤ, pos, sym, refl, ap, ◌∙◌, subst, ap₂, negsuc, add-one, arith, drop_of_length-le}
+use Rattle.std.proofs.Common.{◌≡◌, ℕ, ◌+◌, ◌*◌, ◌^◌, ◌<◌, ◌≤◌, max, Bool, true, false, List, [], ◌∷◌, length, get_or, drop, ℤ, pos, sym, refl, ap, ◌∙◌, subst, ap₂, mul-add, negsuc, add-one, arith, drop_of_length-le}
 use Rattle.std.specs.Prelude as std
 use Rattle.std.specs.Prelude.{Some, None, is_some, unwrap_or, map}
 use Rattle.std.specs.Bool.{then_some}
@@ -11,20 +11,43 @@ use mathlib.Core.List.{zip_with}
 use mathlib.Core.Option.{Option}
 use lib.Ieee.{Format}
 use Rattle.digits.proofs.Rows.{length-numbers}
-use Rattle.rules.specs.Kind.{word_bytes}
+use Rattle.digits.proofs.Fields.{start-room, start_fits}
+use Rattle.rules.specs.Kind.{word_bits, word_bytes}
 use Rattle.rules.specs.Vector.{Raw, the_stand_in, lesser, least_of, least, greatest, fields, wholes, marked}
 use Rattle.rules.specs.Page.{Meta}
 use Rattle.rules.specs.Verdict.{fine, refuse, first, verdict, row, in_vector_at}
 use Rattle.rules.specs.Examine.{stand_in_of, first_rows}
+use Rattle.rules.proofs.Encoded.{small_word}
 use Rattle.rules.proofs.Decoded.{wholes-count, fields-count}
-use Rattle.inspect.specs.Seen.{seen, ListsLaid, listed_at, behind, mark_of}
+use Rattle.inspect.specs.Seen.{seen, FieldsLaid, ListsLaid, is_next, listed_at, behind, mark_of, mark_at}
 use Rattle.inspect.proofs.Steps.{Walk, walk_start, walk_step, some_whole}
 
+-- ---- an index that may be there
+
+-- whether it is, and what is then stored
+there_if : (b : Bool) (j : ℕ) → is_some (then_some b j) ≡ b
+there_if true j = refl
+there_if false j = refl
+
+stored_if : (xs : List ℕ) (b : Bool) (j : ℕ) → mark_of b (get_or xs j 0) ≡ mark_at xs (then_some b j)
+stored_if xs true j = refl
+stored_if xs false j = refl
+
 -- ---- sizes
+
+module _ (fmt : Format) (n : ℕ) (m : Meta) (packed : List ℕ) (laid : FieldsLaid fmt n m packed) (i start : ℕ) (e : start ≡ m.width * i) (more : i < n) where
+  pub fields-room : (m.width ≤ word_bits fmt) × (start + m.width ≤ 8 * length packed)
+  fields-room = (laid.narrow, omega (arith, laid.long, start-room m.width i start e n more))
+
+  pub bits_fit : start + m.width < 2 ^ 64
+  bits_fit = start_fits m.width i start e n more (omega (arith, laid.many)) (omega (arith, laid.narrow, small_word fmt))
 
 module _ (fmt : Format) (n : ℕ) (m : Meta) (packed lists : List ℕ) (laid : ListsLaid fmt n m lists) where
   pub seen_start : Walk (seen fmt n m packed lists) 0 0
   seen_start = walk_start (seen fmt n m packed lists) (length-numbers (word_bytes fmt) m.listed (drop (m.listed * 2) lists) ∙ sym (length-numbers 2 m.listed lists)) laid.rising
+
+  pub lists-room : m.listed * 2 ≤ length lists
+  lists-room = omega (arith, laid.room, mul-add m.listed 2 (word_bytes fmt))
 
   pub few-behind : (i j : ℕ) → Walk (seen fmt n m packed lists) i j → j < 2 ^ 32
   few-behind i j w = omega (arith, w.used, length-numbers 2 m.listed lists, laid.few, laid.many)
@@ -43,7 +66,7 @@ module _ (fmt : Format) (r : Raw) (a v : ℕ) (f : ℤ → Option ℕ → Bool) 
   scan_end h = sym (s ∙ ap (λ (zs : List ℤ). verdict (first_rows a v f i zs (drop i (marked r)))) (drop_of_length-le (wholes fmt r) {i = i} (omega (arith, wholes-count fmt r))))
 
   -- l is the index of position i in the list, if it is listed, and t is the condition
-  module _ (j : ℕ) (w : Walk r i j) (more : i < r.count) (l : std.Option ℕ) (el : l ≡ listed_at r.positions i j) (t : Bool) (et : t ≡ f (get_or (wholes fmt r) i (pos 0)) (mark_of r.exceptions l)) where
+  module _ (j : ℕ) (w : Walk r i j) (more : i < r.count) (l : std.Option ℕ) (el : l ≡ listed_at r.positions i j) (t : Bool) (et : t ≡ f (get_or (wholes fmt r) i (pos 0)) (mark_at r.exceptions l)) where
     scan_here : verdict (first_rows a v f 0 (wholes fmt r) (marked r)) ≡ first (verdict (row a (in_vector_at v i) t)) (verdict (first_rows a v f (i + 1) (drop (i + 1) (wholes fmt r)) (drop (i + 1) (marked r))))
     unfolding first_rows
     scan_here =
@@ -51,7 +74,7 @@ module _ (fmt : Format) (r : Raw) (a v : ℕ) (f : ℤ → Option ℕ → Bool) 
         let ms = drop (i + 1) (marked r) in
         s
         ∙ ap₂ (λ (x : List ℤ) (y : List (Option ℕ)). verdict (first_rows a v f i x y)) (some_whole fmt r i more) (walk_step r i j w more).0
-        ∙ ap₂ (λ (b : Bool) (k : ℕ). first (verdict (row a (in_vector_at v i) b)) (verdict (first_rows a v f k zs ms))) (ap (λ (b : std.Option ℕ). f (get_or (wholes fmt r) i (pos 0)) (mark_of r.exceptions b)) (sym el) ∙ sym et) (sym (add-one i))
+        ∙ ap₂ (λ (b : Bool) (k : ℕ). first (verdict (row a (in_vector_at v i) b)) (verdict (first_rows a v f k zs ms))) (ap (f (get_or (wholes fmt r) i (pos 0))) (stored_if r.exceptions (is_next r.positions i j) j ∙ ap (mark_at r.exceptions) (sym el)) ∙ sym et) (sym (add-one i))
 
     pub scan_stops : t ≡ true → refuse a (in_vector_at v i) ≡ verdict (first_rows a v f 0 (wholes fmt r) (marked r))
     scan_stops e = sym (scan_here ∙ ap (λ (b : Bool). first (verdict (row a (in_vector_at v i) b)) (verdict (first_rows a v f (i + 1) (drop (i + 1) (wholes fmt r)) (drop (i + 1) (marked r))))) e)
@@ -60,15 +83,12 @@ module _ (fmt : Format) (r : Raw) (a v : ℕ) (f : ℤ → Option ℕ → Bool) 
     scan_next e = scan_here ∙ ap (λ (b : Bool). first (verdict (row a (in_vector_at v i) b)) (verdict (first_rows a v f (i + 1) (drop (i + 1) (wholes fmt r)) (drop (i + 1) (marked r))))) e
 
 -- the walk goes on behind the position
-pub walk-next : (r : Raw) (i j : ℕ) → Walk r i j → i < r.count → (l : std.Option ℕ) → l ≡ listed_at r.positions i j → (k : ℕ) → k ≡ behind l j → Walk r (i + 1) k
-walk-next r i j w more l el k ek = subst (Walk r (i + 1)) (ap (λ (b : std.Option ℕ). behind b j) (sym el) ∙ sym ek) (walk_step r i j w more).1
+pub walk-next : (r : Raw) (i j : ℕ) → Walk r i j → i < r.count → (l : std.Option ℕ) → l ≡ listed_at r.positions i j → (k : ℕ) → k ≡ behind (is_some l) j → Walk r (i + 1) k
+walk-next r i j w more l el k ek =
+    let is : is_next r.positions i j ≡ is_some l = sym (there_if (is_next r.positions i j) j) ∙ ap is_some (sym el) in
+    subst (Walk r (i + 1)) (ap (λ (b : Bool). behind b j) is ∙ sym ek) (walk_step r i j w more).1
 
 -- ---- for the stand-in: every position below i is listed
-
--- an index that may be there: whether it is
-there_if : (b : Bool) (j : ℕ) → is_some (then_some b j) ≡ b
-there_if true j = refl
-there_if false j = refl
 
 pub record Seeking (fmt : Format) (r : Raw) (i : ℕ) : Type 0 where
   pub walk : Walk r i i
@@ -83,28 +103,25 @@ module _ (fmt : Format) (r : Raw) where
     unfolding the_stand_in zip_with
     seek_end h = sym (s.same ∙ ap (λ (zs : List ℤ). stand_in_of zs (drop i (marked r))) (drop_of_length-le (wholes fmt r) {i = i} (omega (arith, wholes-count fmt r))))
 
-    module _ (more : i < r.count) (l : std.Option ℕ) (el : l ≡ listed_at r.positions i i) where
+    -- l says whether position i is listed
+    module _ (more : i < r.count) (l : Bool) (el : l ≡ is_next r.positions i i) where
       abbrev here : ℤ
       here = get_or (wholes fmt r) i (pos 0)
 
-      seek_here : stand_in_of (wholes fmt r) (marked r) ≡ stand_in_of (here ∷ drop (i + 1) (wholes fmt r)) (mark_of r.exceptions l ∷ drop (i + 1) (marked r))
+      seek_here : stand_in_of (wholes fmt r) (marked r) ≡ stand_in_of (here ∷ drop (i + 1) (wholes fmt r)) (mark_of l (get_or r.exceptions i 0) ∷ drop (i + 1) (marked r))
       seek_here =
           s.same ∙ ap₂ stand_in_of (some_whole fmt r i more) (walk_step r i i s.walk more).0
-          ∙ ap (λ (b : std.Option ℕ). stand_in_of (here ∷ drop (i + 1) (wholes fmt r)) (mark_of r.exceptions b ∷ drop (i + 1) (marked r))) (sym el)
+          ∙ ap (λ (b : Bool). stand_in_of (here ∷ drop (i + 1) (wholes fmt r)) (mark_of b (get_or r.exceptions i 0) ∷ drop (i + 1) (marked r))) (sym el)
 
-      -- the index as it is, if it is known whether it is there
-      known : (b : Bool) → is_some l ≡ b → l ≡ then_some b i
-      known b e = el ∙ ap (λ (b : Bool). then_some b i) (sym (there_if _ i) ∙ sym (ap is_some el) ∙ e)
-
-      pub seek_found : is_some l ≡ false → here ≡ stand_in_of (wholes fmt r) (marked r)
+      pub seek_found : l ≡ false → here ≡ stand_in_of (wholes fmt r) (marked r)
       unfolding the_stand_in zip_with
-      seek_found e = sym (seek_here ∙ ap (λ (b : std.Option ℕ). stand_in_of (here ∷ drop (i + 1) (wholes fmt r)) (mark_of r.exceptions b ∷ drop (i + 1) (marked r))) (known false e))
+      seek_found e = sym (seek_here ∙ ap (λ (b : Bool). stand_in_of (here ∷ drop (i + 1) (wholes fmt r)) (mark_of b (get_or r.exceptions i 0) ∷ drop (i + 1) (marked r))) e)
 
-      pub seek_next : is_some l ≡ true → Seeking fmt r (i + 1)
+      pub seek_next : l ≡ true → Seeking fmt r (i + 1)
       unfolding the_stand_in zip_with
-      seek_next e = let is = known true e in record {
-        walk = subst (Walk r (i + 1)) (ap (λ (b : std.Option ℕ). behind b i) (sym el ∙ is)) (walk_step r i i s.walk more).1;
-        same = seek_here ∙ ap (λ (b : std.Option ℕ). stand_in_of (here ∷ drop (i + 1) (wholes fmt r)) (mark_of r.exceptions b ∷ drop (i + 1) (marked r))) is;
+      seek_next e = record {
+        walk = subst (Walk r (i + 1)) (ap (λ (b : Bool). behind b i) (sym el ∙ e)) (walk_step r i i s.walk more).1;
+        same = seek_here ∙ ap (λ (b : Bool). stand_in_of (here ∷ drop (i + 1) (wholes fmt r)) (mark_of b (get_or r.exceptions i 0) ∷ drop (i + 1) (marked r))) e;
       }
 
 -- ---- for the smallest whole number, and for the largest field

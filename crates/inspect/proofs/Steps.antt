@@ -16,16 +16,22 @@ use Rattle.digits.proofs.Lists.{below_each, each_map, each_drop}
 use Rattle.digits.proofs.Rows.{length-numbers, get_or-numbers}
 use Rattle.digits.proofs.Fields.{field_at}
 use Rattle.rules.specs.Kind.{word, word_bits, word_bytes}
+use Rattle.rules.specs.Decimal.{Pair}
 use Rattle.rules.specs.Vector.{Raw, greatest, fields, wholes, marks, marked}
 use Rattle.rules.specs.Page.{Meta}
+use Rattle.rules.proofs.Encoded.{small_word}
 use Rattle.rules.proofs.Fields.{sum_of_words}
 use Rattle.rules.proofs.Order.{greatest-lt}
 use Rattle.rules.proofs.Tries.{Held}
 use Rattle.rules.proofs.Reading.{Rising}
 use Rattle.rules.proofs.Marks.{stored-none, stored_here, marks-skip}
 use Rattle.rules.proofs.Decoded.{wholes-count, fields-count}
-use Rattle.inspect.specs.Seen.{seen, FieldsLaid, listed_at, behind, mark_of}
+use Rattle.inspect.specs.Seen.{seen, FieldsLaid, is_next, listed_at, behind, mark_of}
 use Rattle.inspect.specs.Looked.{Within}
+
+-- a pair, where any will do
+abbrev pub some_pair : Pair
+some_pair = record { exponent = 0; factor = 0 }
 
 -- ---- lists
 
@@ -34,12 +40,12 @@ some_if : (b : Bool) (j k : ℕ) → then_some b j ≡ Some k → (b ≡ true) �
 some_if true j k e = (refl, same_Some j k e)
 some_if false j k e = absurd (none-some k e)
 
--- the index of i in a list of numbers, if it is the next there
+-- whether i is the next of a list of numbers, and its index there, if it is
 module _ (listed i j : ℕ) (lists : List ℕ) where
-  pub next-is : j < listed → {p : ℕ} → p ≡ number (take 2 (drop (2 * j) lists)) → then_some (eqb p i) j ≡ listed_at (numbers 2 listed lists) i j
+  pub next-is : j < listed → {p : ℕ} → p ≡ number (take 2 (drop (2 * j) lists)) → eqb p i ≡ is_next (numbers 2 listed lists) i j
   next-is h e = rw (length-numbers 2 listed lists, lt-ltb j listed h, get_or-numbers 2 listed lists j h, e)
 
-  pub none_next : listed ≤ j → None ≡ listed_at (numbers 2 listed lists) i j
+  pub none_next : listed ≤ j → false ≡ is_next (numbers 2 listed lists) i j
   none_next h = rw (length-numbers 2 listed lists, le-ltb j listed h)
 
   pub next-below : (l : std.Option ℕ) → l ≡ listed_at (numbers 2 listed lists) i j → Within listed l
@@ -99,19 +105,19 @@ module _ (r : Raw) (i j : ℕ) (w : Walk r i j) (more : i < r.count) where
   n = r.count
 
   -- what is stored for position i, and the walk from the next position on
-  abbrev Step : std.Option ℕ → Type 0
-  Step b = (drop i (marked r) ≡ mark_of xs b ∷ drop (i + 1) (marked r)) × Walk r (i + 1) (behind b j)
+  abbrev Step : Bool → Type 0
+  Step b = (drop i (marked r) ≡ mark_of b (get_or xs j 0) ∷ drop (i + 1) (marked r)) × Walk r (i + 1) (behind b j)
 
   left_is : n - i ≡ suc (n - (i + 1))
   left_is = omega arith
 
-  step : (b : std.Option ℕ) → behind b j ≤ length ps → Rising n (i + 1) (drop (behind b j) ps)
-      → marks (drop j ps) (drop j xs) i (suc (n - (i + 1))) ≡ mark_of xs b ∷ marks (drop (behind b j) ps) (drop (behind b j) xs) (i + 1) (n - (i + 1)) → Step b
+  step : (b : Bool) → behind b j ≤ length ps → Rising n (i + 1) (drop (behind b j) ps)
+      → marks (drop j ps) (drop j xs) i (suc (n - (i + 1))) ≡ mark_of b (get_or xs j 0) ∷ marks (drop (behind b j) ps) (drop (behind b j) xs) (i + 1) (n - (i + 1)) → Step b
   step b used rising e =
-      let whole : drop i (marked r) ≡ mark_of xs b ∷ marks (drop (behind b j) ps) (drop (behind b j) xs) (i + 1) (n - (i + 1)) =
+      let whole : drop i (marked r) ≡ mark_of b (get_or xs j 0) ∷ marks (drop (behind b j) ps) (drop (behind b j) xs) (i + 1) (n - (i + 1)) =
       w.rest ∙ ap (marks (drop j ps) (drop j xs) i) left_is ∙ e in
       let tail : drop (i + 1) (marked r) ≡ marks (drop (behind b j) ps) (drop (behind b j) xs) (i + 1) (n - (i + 1)) = sym (drop-drop 1 i (marked r)) ∙ ap (drop 1) whole in (
-        whole ∙ ap (λ (l : List (Option ℕ)). mark_of xs b ∷ l) (sym tail),
+        whole ∙ ap (λ (l : List (Option ℕ)). mark_of b (get_or xs j 0) ∷ l) (sym tail),
         record {
           paired = w.paired;
           within = omega arith;
@@ -122,10 +128,10 @@ module _ (r : Raw) (i j : ℕ) (w : Walk r i j) (more : i < r.count) where
       )
 
   -- the position is not listed: every position from j on is above it
-  unlisted : Rising n (suc i) (drop j ps) → Step None
+  unlisted : Rising n (suc i) (drop j ps) → Step false
   unlisted h =
       let g : Rising n (i + 1) (drop j ps) = subst (λ (x : ℕ). Rising n x (drop j ps)) (sym (add-one i)) h in
-      step None w.used g (not_next n i (n - (i + 1)) (drop j ps) (drop j xs) h ∙ ap (λ (x : ℕ). none ∷ marks (drop j ps) (drop j xs) x (n - (i + 1))) (sym (add-one i)))
+      step false w.used g (not_next n i (n - (i + 1)) (drop j ps) (drop j xs) h ∙ ap (λ (x : ℕ). none ∷ marks (drop j ps) (drop j xs) x (n - (i + 1))) (sym (add-one i)))
 
   module _ (h : j < length ps) where
     positions-from : drop j ps ≡ get_or ps j 0 ∷ drop (j + 1) ps
@@ -137,15 +143,15 @@ module _ (r : Raw) (i j : ℕ) (w : Walk r i j) (more : i < r.count) where
     next-rising : Rising n i (get_or ps j 0 ∷ drop (j + 1) ps)
     next-rising = subst (Rising n i) positions-from w.rising
 
-    listed_here : get_or ps j 0 ≡ i → Step (Some j)
+    listed_here : get_or ps j 0 ≡ i → Step true
     listed_here e =
         let g : Rising n (i + 1) (drop (j + 1) ps) = subst (λ (x : ℕ). Rising n x (drop (j + 1) ps)) (ap suc e ∙ sym (add-one i)) next-rising.2 in
-        step (Some j) (omega arith) g
+        step true (omega arith) g
         (ap₂ (λ (l k : List ℕ). marks l k i (suc (n - (i + 1)))) (positions-from ∙ ap (λ (x : ℕ). x ∷ drop (j + 1) ps) e) exceptions-from
         ∙ at_next (get_or xs j 0) i (drop (j + 1) ps) (drop (j + 1) xs) (n - (i + 1))
         ∙ ap (λ (x : ℕ). some (get_or xs j 0) ∷ marks (drop (j + 1) ps) (drop (j + 1) xs) x (n - (i + 1))) (sym (add-one i)))
 
-    listed-later : (get_or ps j 0 ≡ i → ⊥) → Step None
+    listed-later : (get_or ps j 0 ≡ i → ⊥) → Step false
     listed-later ne =
         let a = next-rising.0 in
         let b : suc i ≤ get_or ps j 0 = later i (get_or ps j 0) a ne in
@@ -154,17 +160,17 @@ module _ (r : Raw) (i j : ℕ) (w : Walk r i j) (more : i < r.count) where
         later : (a b : ℕ) → a ≤ b → (b ≡ a → ⊥) → suc a ≤ b
         later a b h ne = omega (arith, h, ne)
 
-  listed-over : length ps ≤ j → Step None
+  listed-over : length ps ≤ j → Step false
   listed-over h = unlisted (subst (Rising n (suc i)) (sym (drop_of_length-le ps {i = j} h)) tt)
 
-  pub walk_step : Step (listed_at ps i j)
+  pub walk_step : Step (is_next ps i j)
   walk_step = go (ltb j (length ps)) refl
     where
-      inner : j < length ps → (b : Bool) → eqb (get_or ps j 0) i ≡ b → Step (then_some b j)
+      inner : j < length ps → (b : Bool) → eqb (get_or ps j 0) i ≡ b → Step b
       inner h true e = listed_here h (eqb-true (get_or ps j 0) i e)
       inner h false e = listed-later h (eqb-false (get_or ps j 0) i e)
 
-      go : (b : Bool) → ltb j (length ps) ≡ b → Step (then_some (b && eqb (get_or ps j 0) i) j)
+      go : (b : Bool) → ltb j (length ps) ≡ b → Step (b && eqb (get_or ps j 0) i)
       go true e = inner (ltb-true j (length ps) e) (eqb (get_or ps j 0) i) refl
       go false e = listed-over (ltb-false j (length ps) e)
 
@@ -175,12 +181,19 @@ pub some_whole : (fmt : Format) (r : Raw) (i : ℕ) → i < r.count → drop i (
 some_whole fmt r i more = rw add-one (drop-cons (wholes fmt r) i (pos 0) (omega (arith, wholes-count fmt r)))
 
 -- a word's bits, of its bytes
-bits_of_bytes : (fmt : Format) (b : ℕ) → b ≡ word_bytes fmt → 8 * b ≡ word_bits fmt
+pub bits_of_bytes : (fmt : Format) (b : ℕ) → b ≡ word_bytes fmt → 8 * b ≡ word_bits fmt
 bits_of_bytes fmt b e = ap (λ (n : ℕ). 8 * n) e ∙ go fmt
   where
     go : (fmt : Format) → 8 * word_bytes fmt ≡ word_bits fmt
     go binary32 = refl
     go binary64 = refl
+
+-- so many bits from bit `start` on: a window takes them, and a word of so many bytes has room for them
+pub window_narrow : (fmt : Format) (b : ℕ) → b ≡ word_bytes fmt → (width : ℕ) → width ≤ 8 * b → width ≤ 64
+window_narrow fmt b e width h = omega (arith, bits_of_bytes fmt b e, small_word fmt)
+
+pub window_fits : (n start b width : ℕ) → width ≤ 8 * b → {d : ℕ} → d ≡ n / 2 ^ start % 2 ^ width → d < 2 ^ (8 * b)
+window_fits n start b width h {d} e = subst (λ (d : ℕ). d < 2 ^ (8 * b)) (sym e) (lt_of_lt_of_le (mod-lt (n / 2 ^ start) (pow_pos width)) (pow_mono h))
 
 -- that the code makes of the frame and the field in the window at its bits
 module _ (fmt : Format) (n : ℕ) (m : Meta) (packed : List ℕ) (laid : FieldsLaid fmt n m packed) (lists : List ℕ) (i : ℕ) (more : i < n) where
@@ -190,12 +203,6 @@ module _ (fmt : Format) (n : ℕ) (m : Meta) (packed : List ℕ) (laid : FieldsL
   pub field-is : number packed / 2 ^ (m.width * i) % 2 ^ m.width ≡ get_or (fields r) i 0
   unfolding fields
   field-is = sym (field_at m.width n packed i (m.width * i) more refl)
-
-  -- it has room in a word of so many bytes
-  pub field_fits : (d b : ℕ) → d ≡ get_or (fields r) i 0 → b ≡ word_bytes fmt → d < 2 ^ (8 * b)
-  field_fits d b is e =
-      let h : number packed / 2 ^ (m.width * i) % 2 ^ m.width < 2 ^ (8 * b) = lt_of_lt_of_le (mod-lt (number packed / 2 ^ (m.width * i)) (pow_pos m.width)) (pow_mono (subst (λ (n : ℕ). m.width ≤ n) (sym (bits_of_bytes fmt b e)) laid.narrow)) in
-      subst (λ (d : ℕ). d < 2 ^ (8 * b)) (field-is ∙ sym is) h
 
   pub whole-is : (x : ℕ) → x ≡ (m.frame + get_or (fields r) i 0) % 2 ^ word_bits fmt → to_z (word fmt) x ≡ get_or (wholes fmt r) i (pos 0)
   unfolding wholes fields

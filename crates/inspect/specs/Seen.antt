@@ -73,6 +73,19 @@ lists-laid-once fmt n m lists x y i = record {
   rising = rising-once n 0 (numbers 2 m.listed lists) x.rising y.rising i;
 }
 
+-- the same whatever the vector's pair and lists are, and whatever its pair and fields are
+abbrev pub FieldsFit : Format → ℕ → ℕ → ℕ → List ℕ → Type 0
+FieldsFit fmt n frame width packed = (p : Pair) (listed : ℕ) → FieldsLaid fmt n (described p listed frame width) packed
+
+abbrev pub ListsFit : Format → ℕ → ℕ → List ℕ → Type 0
+ListsFit fmt n listed lists = (p : Pair) (frame width : ℕ) → ListsLaid fmt n (described p listed frame width) lists
+
+pub fields-fit-once : (fmt : Format) (n frame width : ℕ) (packed : List ℕ) → IsProp (FieldsFit fmt n frame width packed)
+fields-fit-once fmt n frame width packed x y i = λ p listed. fields-laid-once fmt n (described p listed frame width) packed (x p listed) (y p listed) i
+
+pub lists-fit-once : (fmt : Format) (n listed : ℕ) (lists : List ℕ) → IsProp (ListsFit fmt n listed lists)
+lists-fit-once fmt n listed lists x y i = λ p frame width. lists-laid-once fmt n (described p listed frame width) lists (x p frame width) (y p frame width) i
+
 -- row a of vector v, for a condition that each position of the vector r may meet
 abbrev pub position_rows : Format → ℕ → ℕ → (ℤ → Option ℕ → Bool) → Raw → Rows
 position_rows fmt a v at-fault r = first_rows a v at-fault 0 (wholes fmt r) (marked r)
@@ -83,16 +96,24 @@ stand_in_as fmt r = stand_in_of (wholes fmt r) (marked r)
 
 -- ---- a walk over the positions i, where j positions of the list are behind it
 
--- the index of i in the list, if it is the next there
+-- whether i is the next position of the list, and its index there, if it is
+abbrev pub is_next : List ℕ → ℕ → ℕ → Bool
+is_next ps i j = nat_lt j (length ps) && slice_index ps j == i
+
 abbrev pub listed_at : List ℕ → ℕ → ℕ → std.Option ℕ
-listed_at ps i j = then_some (nat_lt j (length ps) && slice_index ps j == i) j
+listed_at ps i j = then_some (is_next ps i j) j
 
 -- what is then behind it
-abbrev pub behind : std.Option ℕ → ℕ → ℕ
-behind (Some k) j = j + 1
-behind None j = j
+abbrev pub behind : Bool → ℕ → ℕ
+behind true j = j + 1
+behind false j = j
 
--- what is stored for a position, which has an index where it is listed
-abbrev pub mark_of : List ℕ → std.Option ℕ → Option ℕ
-mark_of xs (Some j) = some (slice_index xs j)
-mark_of xs None = none
+-- what is stored for a position: x where it is listed
+abbrev pub mark_of : Bool → ℕ → Option ℕ
+mark_of true x = some x
+mark_of false x = none
+
+-- the same of one that has an index where it is listed
+abbrev pub mark_at : List ℕ → std.Option ℕ → Option ℕ
+mark_at xs (Some j) = mark_of true (slice_index xs j)
+mark_at xs None = mark_of false 0

@@ -2,7 +2,7 @@
 // no buffer is held, and no list is searched.
 #![tactic(auto)]
 
-mod walk; // walk.rt: a vector, what stands at a position, and a walk over all
-mod faults; // faults.rt: the rows' conditions at one position
-mod rows; // rows.rt: rows 20 to 24
+pub mod walk; // walk.rt: a vector's parts, what stands at a position, and a walk over all
+pub mod faults; // faults.rt: the rows' conditions at one position
+pub mod rows; // rows.rt: rows 20 to 24
 pub mod vector; // vector.rt: the rows in their order
