@@ -1,32 +1,25 @@
 // Requests, what they bring, and answers, as bytes (docs/FRAMES.md).
-ghost use Rattle.std.specs.Prelude.{◌≡◌, ◌^◌, ◌<◌, IfOk, length, vec_len};
+ghost use Rattle.std.specs.Prelude.{◌≤◌, ◌*◌, IfOk, length};
 
 use bits::word::Word;
 use columns::{bytes, words};
 use decimal::value::Value;
 use rules::{Answer, Choice, Kind};
-use std::alloc::{AllocError, Global};
 use std::io;
-use std::io::{Read, Stdin, Stdout, Write};
+use std::io::{ErrorKind, Read, Stdin, Stdout, Write};
 
 // Why the program ends before its input does.
 #[derive(Debug, Drop)]
 pub enum Broken {
     // a request that breaks the shape or is cut short
     Request,
-    // a read or a write that failed, or memory that ran out
+    // a read or a write that failed
     Wire(io::Error),
 }
 
 impl From<io::Error> for Broken {
     fn from(error: io::Error) -> Broken {
         Broken::Wire(error)
-    }
-}
-
-impl From<AllocError> for Broken {
-    fn from(error: AllocError) -> Broken {
-        Broken::Wire(io::Error::from(error))
     }
 }
 
@@ -74,9 +67,9 @@ pub struct Request {
     pub call: Call,
     pub kind: Kind,
     pub s: u8,
-    pub a: u32,
-    pub b: u32,
-    pub c: u32,
+    pub a: usize,
+    pub b: usize,
+    pub c: usize,
 }
 
 impl Request {
@@ -91,14 +84,16 @@ impl Request {
             call: Call::try_from(*call)?,
             kind: kind_of(*kind)?,
             s: *s,
-            a: u32::read(lengths, 0),
-            b: u32::read(lengths, 4),
-            c: u32::read(lengths, 8),
+            a: u32::read(lengths, 0) as usize,
+            b: u32::read(lengths, 4) as usize,
+            c: u32::read(lengths, 8) as usize,
         })
     }
 
     // Refuses a length that is above its limit.
-    pub fn limit(&self, a: u32, b: u32, c: u32) -> Result<(), Broken> {
+    pub fn limit(&self, a: usize, b: usize, c: usize) -> Result<(), Broken>
+        ensures { IfOk result (λ _. (self.now.a ≤ a) × (self.now.b ≤ b) × (self.now.c ≤ c)) }
+    {
         if a < self.a || b < self.b || c < self.c {
             return Err(Broken::Request);
         }
@@ -113,70 +108,72 @@ impl Request {
 pub struct Wire {
     input: Stdin,
     output: Stdout,
-    alloc: Global,
 }
 
 impl Wire {
-    pub fn new(input: Stdin, output: Stdout, alloc: Global) -> Wire {
-        Wire {
-            input,
-            output,
-            alloc,
-        }
+    pub fn new(input: Stdin, output: Stdout) -> Wire {
+        Wire { input, output }
     }
 
-    // The next bytes, fewer only where the input ends.
-    fn up_to(&mut self, most: usize) -> io::Result<Vec<u8>> {
-        let mut bytes = Vec::new(self.alloc);
-        self.input
-            .by_ref()
-            .take(most as u64)
-            .read_to_end(&mut bytes)?;
-        Ok(bytes)
+    // The next bytes, to the front of `part`: how many came, fewer than it has room for only where the input ends. Each read asks for all that
+    // is missing and no more, since an input may come in messages, and a read that asks for less of one loses its rest.
+    fn read(&mut self, part: &mut [u8]) -> io::Result<usize>
+        ensures { IfOk result (λ count. count ≤ length part.new) }
+    {
+        let mut at: usize = 0;
+        for _ in 0..u64::MAX { // an interrupted read is tried again, and a loop has to end
+            if at == part.len() {
+                break;
+            }
+            match self.input.read(&mut part[at..]) {
+                Ok(0) => break,
+                Ok(more) => at += more,
+                Err(error) if error.kind() == ErrorKind::Interrupted => {}
+                Err(error) => return Err(error),
+            }
+        }
+        Ok(at)
     }
 
     // The next request. No bytes at all are the end of the input.
     pub fn request(&mut self) -> Result<Option<Request>, Broken> {
-        let bytes = self.up_to(REQUEST_BYTES)?;
-        if bytes.is_empty() {
+        let mut head = [0; REQUEST_BYTES];
+        let count = self.read(&mut head)?;
+        if count == 0 {
             return Ok(None);
         }
-        Ok(Some(Request::parse(&bytes)?))
+        Ok(Some(Request::parse(&head[..count])?))
     }
 
-    // Just so many bytes.
-    pub fn bytes(&mut self, count: usize) -> Result<Vec<u8>, Broken>
-        ensures { IfOk result (λ bytes. vec_len bytes ≡ count) }
-    {
-        let bytes = self.up_to(count)?;
-        if bytes.len() != count {
+    // All of `part`.
+    pub fn fill(&mut self, part: &mut [u8]) -> Result<(), Broken> {
+        if self.read(part)? < part.len() {
             return Err(Broken::Request);
         }
-        Ok(bytes)
+        Ok(())
     }
 
-    // Just so many values.
-    pub fn values<V: Value>(&mut self, count: u32) -> Result<Vec<V>, Broken>
-        ensures { IfOk result (λ values. vec_len values ≡ count) }
+    // All of `values`, by way of the first bytes of `raw`.
+    pub fn fill_values<V: Value>(&mut self, values: &mut [V], raw: &mut [u8]) -> Result<(), Broken>
+        requires { V.BYTES * length values.old ≤ length raw.old }
     {
-        let count = count as usize;
-        let raw = self.bytes(V::BYTES * count)?;
-        let mut values = vec![in self.alloc; V::from_number(0); count]?;
-        words(&raw, &mut values);
-        Ok(values)
+        let raw = &mut raw[..V::BYTES * values.len()];
+        self.fill(raw)?;
+        words(raw, values);
+        Ok(())
     }
 
     pub fn give(&mut self, bytes: &[u8]) -> io::Result<()> {
         self.output.write_all(bytes)
     }
 
-    // Values, as the bytes that `values` takes them from.
-    pub fn give_values<V: Value>(&mut self, values: &[V]) -> io::Result<()>
-        requires { length values.now < 2 ^ 32 }
+    // Values, as the bytes that `fill_values` takes them from.
+    pub fn give_values<V: Value>(&mut self, values: &[V], raw: &mut [u8]) -> io::Result<()>
+        requires { V.BYTES * length values.now ≤ length raw.old }
     {
-        let mut raw = vec![in self.alloc; 0; V::BYTES * values.len()]?;
-        bytes(values, &mut raw);
-        self.give(&raw)
+        let raw = &mut raw[..V::BYTES * values.len()];
+        bytes(values, raw);
+        self.give(raw)
     }
 
     pub fn answer(&mut self, a: Answer) -> io::Result<()> {
