@@ -1,8 +1,7 @@
 // Choosing the pair of a vector: the starred recordings' values (starred.rt), ties, exceptions only, and the edges of a vector's count.
-use crate::show::Recorder;
+use crate::show::{Recorder, Small, repeated};
 use chooser::choose;
 use decimal::value::Value;
-use std::alloc::AllocError;
 use std::fmt::Display;
 
 // The pair that is chosen for the values.
@@ -18,13 +17,13 @@ pub fn chosen<V: Value, N: Display + Drop>(to: &mut Recorder, name: N, values: &
 }
 
 // No values, as many as a vector holds, and one more.
-fn counts<V: Value>(to: &mut Recorder) -> Result<(), AllocError> {
+fn counts<V: Small>(to: &mut Recorder) {
     let bits = 8 * V::BYTES;
-    for count in [0, 1024, 1025] {
-        let zeros = vec![in to.alloc; V::from_number(0); count]?;
-        chosen(to, format_args!("{bits} values {count}"), &zeros);
+    let zeros: [V; 1025] = repeated(V::from_number(0));
+    for values in [&zeros[..0], &zeros[..1024], &zeros[..]] {
+        let count = values.len();
+        chosen(to, format_args!("{bits} values {count}"), values);
     }
-    Ok(())
 }
 
 // Values under their name.
@@ -51,14 +50,14 @@ const DOUBLE: [Vector<u64>; 3] = [
     ),
 ];
 
-fn edges<V: Value>(to: &mut Recorder, vectors: &[Vector<V>]) -> Result<(), AllocError> {
+fn edges<V: Small>(to: &mut Recorder, vectors: &[Vector<V>]) {
     for (name, values) in vectors {
         chosen(to, *name, values);
     }
-    counts::<V>(to)
+    counts::<V>(to);
 }
 
-pub fn run(to: &mut Recorder) -> Result<(), AllocError> {
-    edges(to, &SINGLE)?;
-    edges(to, &DOUBLE)
+pub fn run(to: &mut Recorder) {
+    edges(to, &SINGLE);
+    edges(to, &DOUBLE);
 }

@@ -1,10 +1,12 @@
 // Columns of the lengths at which vectors begin, end and are full, at the smallest and the largest s.
-use crate::show::{Recorder, filled, is_done};
+ghost use Rattle.std.specs.Prelude.{◌*◌, ◌&&◌, nat_le, IsTrue};
+ghost use Rattle.std.specs.List.{list_all};
+
+use crate::show::{Recorder, Small, filled, is_done, repeated};
 use decimal::value::Value;
 use examiner::examine;
 use reader::read;
 use rules::Answer;
-use std::alloc::{AllocError, Global};
 use std::fmt::Display;
 use writer::{measure, write};
 
@@ -24,7 +26,9 @@ const DOUBLE: [u64; 8] = [
 ];
 
 // How many values, s, and how many vectors they make.
-const COLUMNS: [(u16, u8, u16); 20] = [
+type Column = (u16, u8, u16);
+
+const COLUMNS: [Column; 20] = [
     (0, 3, 0),
     (1, 3, 1),
     (7, 3, 1),
@@ -46,6 +50,13 @@ const COLUMNS: [(u16, u8, u16); 20] = [
     (16384, 10, 16),
     (16385, 10, 17),
 ];
+
+// No column has more values, no page of one more bytes (the longest has 178,184), and no column's pairs are longer.
+const VALUES: usize = 16385;
+
+const PAGE: usize = 200000;
+
+const PAIRS: usize = 4100;
 
 // One number that tells byte strings apart.
 fn checksum(t: &[u8]) -> u64 {
@@ -74,35 +85,34 @@ fn said<V: Value, G: Display + Drop>(
 }
 
 // The patterns in a changing order.
-fn column<V: Value>(alloc: Global, patterns: &[V; 8], count: u16) -> Result<Vec<V>, AllocError> {
-    let mut values = Vec::new(alloc);
-    for i in 0..count {
-        let i = usize::from(i);
-        values.push(patterns[(i * 5 + i / 8) % 8])?;
+fn fill<V: Value>(values: &mut [V], patterns: &[V; 8]) {
+    for (i, value) in values.iter_mut().enumerate() {
+        let i = i % 65536;
+        *value = patterns[(i * 5 + i / 8) % 8];
     }
-    Ok(values)
 }
 
 // Measured, and then written into exactly so many bytes.
-fn written<V: Value + PartialEq>(
+fn written<V: Value>(
     to: &mut Recorder,
     values: &[V],
     s: u8,
-    vectors: u16,
-) -> Result<(), AllocError> {
-    let pairs = vec![in to.alloc; 0; 2 * usize::from(vectors)]?;
-    let measured = measure(values, s, &pairs);
+    pairs: &[u8],
+    page: &mut [u8],
+) -> Answer {
+    let measured = measure(values, s, pairs);
     said(to, s, values, "measure", measured, "");
-    let mut page = vec![in to.alloc; 0xEE; measured.place as usize]?;
-    let wrote = write(values, s, &pairs, &mut page);
-    if !is_done(wrote) {
+    let length = page.len().min(measured.place as usize);
+    let page = &mut page[..length];
+    page.fill(0xEE);
+    let wrote = write(values, s, pairs, page);
+    if is_done(wrote) {
+        let sum = checksum(filled(page, wrote));
+        said(to, s, values, "write", wrote, format_args!(" sum {sum}"));
+    } else {
         said(to, s, values, "write", wrote, "");
-        return Ok(());
     }
-    let page = filled(&page, wrote);
-    let sum = checksum(page);
-    said(to, s, values, "write", wrote, format_args!(" sum {sum}"));
-    read_back(to, page, values, s)
+    wrote
 }
 
 // What reader and examiner make of a page.
@@ -111,28 +121,41 @@ fn read_back<V: Value + PartialEq>(
     page: &[u8],
     values: &[V],
     s: u8,
-) -> Result<(), AllocError> {
-    let mut back = vec![in to.alloc; V::from_number(0); values.len()]?;
-    let answer = read(page, &mut back);
-    let same = if back.as_slice() == values {
+    back: &mut [V],
+) {
+    for place in back.iter_mut() {
+        *place = V::from_number(0);
+    }
+    let answer = read(page, back);
+    let same = if filled(back, answer) == values {
         " same"
     } else {
         ""
     };
     said(to, s, values, "read", answer, same);
     said(to, s, values, "examine", examine::<V>(page), "");
-    Ok(())
 }
 
-fn each<V: Value + PartialEq>(to: &mut Recorder, patterns: &[V; 8]) -> Result<(), AllocError> {
-    for (count, s, vectors) in COLUMNS {
-        let values = column(to.alloc, patterns, count)?;
-        written(to, &values, s, vectors)?;
+// Columns that have room, in arrays that are made once for all of them.
+fn each<V: Small + PartialEq>(to: &mut Recorder, patterns: &[V; 8], columns: &[Column])
+    requires { IsTrue (list_all (λ c. nat_le c.0 VALUES && nat_le (2 * c.2) PAIRS) columns.now) }
+{
+    let mut column: [V; VALUES] = repeated(V::from_number(0));
+    fill(&mut column, patterns);
+    let pairs: [u8; PAIRS] = repeated(0);
+    let mut page: [u8; PAGE] = repeated(0xEE);
+    let mut back: [V; VALUES] = repeated(V::from_number(0));
+    for (count, s, vectors) in columns {
+        let values = &column[..usize::from(*count)];
+        let pairs = &pairs[..2 * usize::from(*vectors)];
+        let wrote = written(to, values, *s, pairs, &mut page);
+        if is_done(wrote) {
+            read_back(to, filled(&page, wrote), values, *s, &mut back);
+        }
     }
-    Ok(())
 }
 
-pub fn run(to: &mut Recorder) -> Result<(), AllocError> {
-    each(to, &SINGLE)?;
-    each(to, &DOUBLE)
+pub fn run(to: &mut Recorder) {
+    each(to, &SINGLE, &COLUMNS);
+    each(to, &DOUBLE, &COLUMNS);
 }

@@ -2,9 +2,8 @@
 // none. Each line shows the answer and then all bytes, those behind the lent ones too, so that what was left as it came is seen.
 ghost use Rattle.std.specs.Prelude.{◌≤◌, ◌<◌};
 
-use crate::show::{Bytes, Recorder};
+use crate::show::{Bytes, Recorder, repeated};
 use decimal::value::Value;
-use std::alloc::AllocError;
 use writer::{measure, write};
 
 // Exponent 1 for the first vector, 0 for the second.
@@ -41,40 +40,35 @@ const DOUBLE: [u64; 11] = [
 ];
 
 // The column, written into the first `room` bytes of an output of `size`.
-fn written<V: Value>(
-    to: &mut Recorder,
-    values: &[V],
-    size: usize,
-    room: usize,
-) -> Result<(), AllocError>
-    requires { room ≤ size }
+fn written<V: Value>(to: &mut Recorder, values: &[V], size: usize, room: usize)
+    requires { (room ≤ size) × (size ≤ 117) }
 {
-    let mut out = vec![in to.alloc; 0xEE; size]?;
+    let mut out: [u8; 117] = repeated(0xEE);
+    let out = &mut out[..size];
     let wrote = write(values, 3, &PAIRS, &mut out[..room]);
     let bits = 8 * V::BYTES;
     to.line(
         format_args!("{bits} exceptions, room {room}:"),
         wrote,
-        Bytes(&out),
+        Bytes(out),
     );
-    Ok(())
 }
 
 // The column, whose page has `length` bytes.
-fn lent<V: Value>(to: &mut Recorder, values: &[V], length: usize) -> Result<(), AllocError>
+fn lent<V: Value>(to: &mut Recorder, values: &[V], length: usize)
     requires { (0 < length) × (length ≤ 116) }
 {
     let bits = 8 * V::BYTES;
     let measured = measure(values, 3, &PAIRS);
     to.line(format_args!("{bits} exceptions measure"), measured, "");
     let size = length + 1;
-    written(to, values, size, length + 1)?;
-    written(to, values, size, length)?;
-    written(to, values, size, length - 1)?;
-    written(to, values, size, 0)
+    written(to, values, size, length + 1);
+    written(to, values, size, length);
+    written(to, values, size, length - 1);
+    written(to, values, size, 0);
 }
 
-pub fn run(to: &mut Recorder) -> Result<(), AllocError> {
-    lent(to, &SINGLE, 80)?;
-    lent(to, &DOUBLE, 116)
+pub fn run(to: &mut Recorder) {
+    lent(to, &SINGLE, 80);
+    lent(to, &DOUBLE, 116);
 }

@@ -18,23 +18,22 @@ mod vectors;
 
 use crate::show::Recorder;
 use sentences::Output;
-use std::alloc::AllocError;
 use std::io;
 
-fn all(to: &mut Recorder) -> Result<(), AllocError> {
-    starred::run(to)?;
-    refused::run(to)?;
-    examined::run(to)?;
-    rounded::run(to)?;
-    sums::run(to)?;
-    vectors::run(to)?;
-    chosen::run(to)?;
-    lent::run(to)?;
-    columns::run(to)
+fn all(to: &mut Recorder) {
+    starred::run(to);
+    refused::run(to);
+    examined::run(to);
+    rounded::run(to);
+    sums::run(to);
+    vectors::run(to);
+    chosen::run(to);
+    lent::run(to);
+    columns::run(to);
 }
 
 fn main(rt: HostRuntime) -> io::Result<()> {
-    let mut to = Recorder::new(Output::new(rt.stdout(), rt.stderr()), rt.alloc());
-    all(&mut to)?;
+    let mut to = Recorder::new(Output::new(rt.stdout(), rt.stderr()));
+    all(&mut to);
     to.finish()
 }

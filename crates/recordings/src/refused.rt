@@ -1,7 +1,6 @@
 // R10 to R17: pages that were damaged or written otherwise, read and examined.
 use crate::pages::{Page, each};
 use crate::show::Recorder;
-use std::alloc::AllocError;
 
 const PAGES: [Page; 13] = [
     // R6 with packed 18
@@ -63,6 +62,6 @@ const PAGES: [Page; 13] = [
     ),
 ];
 
-pub fn run(to: &mut Recorder) -> Result<(), AllocError> {
-    each::<u32>(to, &PAGES)
+pub fn run(to: &mut Recorder) {
+    each::<u32>(to, &PAGES);
 }

@@ -3,7 +3,6 @@
 use crate::pages::{Page, each};
 use crate::show::Recorder;
 use crate::starred::{Column, rounds};
-use std::alloc::AllocError;
 
 const SINGLE: [Column<u32>; 6] = [
     // 4194303.0, 4194304.0, 4194305.0, 4194306.0, 4194307.0, -4194304.5, -4194305.0, 8388607.0
@@ -115,9 +114,9 @@ const OLDER_DOUBLE: [Page; 2] = [
     ),
 ];
 
-pub fn run(to: &mut Recorder) -> Result<(), AllocError> {
-    rounds(to, &SINGLE)?;
-    rounds(to, &DOUBLE)?;
-    each::<u32>(to, &OLDER_SINGLE)?;
-    each::<u64>(to, &OLDER_DOUBLE)
+pub fn run(to: &mut Recorder) {
+    rounds(to, &SINGLE);
+    rounds(to, &DOUBLE);
+    each::<u32>(to, &OLDER_SINGLE);
+    each::<u64>(to, &OLDER_DOUBLE);
 }

@@ -1,21 +1,36 @@
 // Prints answers, bytes and values.
+ghost use Rattle.std.specs.Prelude.{◌≤◌};
+ghost use Rattle.std.specs.Mem.{type_size};
+ghost use Rattle.std.proofs.Common.{lit≤};
+
 use decimal::value::Value;
 use rules::Answer;
 use sentences::{Numbers, Output};
-use std::alloc::Global;
 use std::fmt::Display;
 use std::{fmt, io};
 
-// Where the lines go, and where the outputs of the calls come from.
+// A value of at most 8 bytes, so that outputs of a fixed room are arrays.
+pub trait Small: Value {
+    ghost small: { type_size Self.row ≤ 8 };
+}
+
+impl Small for u32 {
+    ghost small = { lit≤ tt };
+}
+
+impl Small for u64 {
+    ghost small = { lit≤ tt };
+}
+
+// Where the lines go.
 #[derive(Drop)]
 pub struct Recorder {
     to: Output,
-    pub alloc: Global,
 }
 
 impl Recorder {
-    pub fn new(to: Output, alloc: Global) -> Recorder {
-        Recorder { to, alloc }
+    pub fn new(to: Output) -> Recorder {
+        Recorder { to }
     }
 
     // A line: which call, what it answers, and what it gives.
@@ -73,4 +88,9 @@ pub fn filled<T>(out: &[T], a: Answer) -> &[T] {
 // What stands in an output before a call: a value of bytes EE.
 pub fn untouched<V: Value>() -> V {
     V::read(&[0xEE; 8], 0)
+}
+
+// The same in each place. A function of its own, so that a proof that cuts what it gives knows the length alone, and not the elements.
+pub fn repeated<T: Copy, const N: usize>(t: T) -> [T; N] {
+    [t; N]
 }

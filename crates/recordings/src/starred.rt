@@ -1,9 +1,9 @@
 // R1 to R9: the pair that is chosen, the writer's bytes, what the reader makes of them, and the examiner's answer.
+ghost use Rattle.std.specs.Prelude.{◌≤◌};
+
 use crate::chosen::chosen;
 use crate::pages::both;
-use crate::show::{Bytes, Recorder, filled, is_done};
-use decimal::value::Value;
-use std::alloc::AllocError;
+use crate::show::{Bytes, Recorder, Small, filled, is_done, repeated};
 use writer::write;
 
 // A column of one vector under its name, with the vector's exponent and factor.
@@ -47,36 +47,31 @@ const LAST: [Column<u32>; 3] = [
 ];
 
 // Each column's choice and page.
-pub fn rounds<V: Value>(to: &mut Recorder, columns: &[Column<V>]) -> Result<(), AllocError> {
+pub fn rounds<V: Small>(to: &mut Recorder, columns: &[Column<V>]) {
     for (name, exponent, factor, values) in columns {
         chosen(to, *name, values);
-        written(to, name, values, &[*exponent, *factor], 80)?;
+        written(to, name, values, &[*exponent, *factor], 80);
     }
-    Ok(())
 }
 
 // A column's page, written into so many bytes, and what is made of it.
-fn written<V: Value>(
-    to: &mut Recorder,
-    name: &str,
-    values: &[V],
-    pairs: &[u8],
-    room: usize,
-) -> Result<(), AllocError> {
-    let mut page = vec![in to.alloc; 0xEE; room]?;
-    let wrote = write(values, 10, pairs, &mut page);
-    let page = filled(&page, wrote);
+fn written<V: Small>(to: &mut Recorder, name: &str, values: &[V], pairs: &[u8], room: usize)
+    requires { room ≤ 80 }
+{
+    let mut page: [u8; 80] = repeated(0xEE);
+    let page = &mut page[..room];
+    let wrote = write(values, 10, pairs, page);
+    let page = filled(page, wrote);
     to.line(format_args!("{name} write"), wrote, Bytes(page));
     if is_done(wrote) {
-        both::<V>(to, name, page)?;
+        both::<V>(to, name, page);
     }
-    Ok(())
 }
 
-pub fn run(to: &mut Recorder) -> Result<(), AllocError> {
-    rounds(to, &FIRST)?;
-    rounds(to, &SEVENTH)?;
-    rounds(to, &LAST)?;
+pub fn run(to: &mut Recorder) {
+    rounds(to, &FIRST);
+    rounds(to, &SEVENTH);
+    rounds(to, &LAST);
     // R3: no values, and so no pairs
-    written::<u32>(to, "R3", &[], &[], 8)
+    written::<u32>(to, "R3", &[], &[], 8);
 }

@@ -3,10 +3,8 @@
 ghost use Rattle.std.specs.Prelude.{◌≤◌};
 
 use crate::pages::both;
-use crate::show::{Recorder, Values, filled, untouched};
-use decimal::value::Value;
+use crate::show::{Recorder, Small, Values, filled, repeated, untouched};
 use reader::read;
-use std::alloc::AllocError;
 use vector_reader::read_vector;
 
 // A page under its name, and the vector of it that is read alone.
@@ -417,88 +415,74 @@ const DOUBLE: [Sum; 26] = [
 // ---- what is made of them
 
 // One vector of the page, read alone.
-fn alone<V: Value>(
-    to: &mut Recorder,
-    name: &str,
-    page: &[u8],
-    vector: usize,
-) -> Result<(), AllocError> {
-    let mut out = vec![in to.alloc; untouched::<V>(); 8]?;
+fn alone<V: Small>(to: &mut Recorder, name: &str, page: &[u8], vector: usize) {
+    let mut out: [V; 8] = repeated(untouched());
     let read = read_vector(page, vector, &mut out);
     to.line(
         format_args!("{name} vector {vector}:"),
         read,
         Values(filled(&out, read)),
     );
-    Ok(())
 }
 
-fn each<V: Value>(to: &mut Recorder, sums: &[Sum]) -> Result<(), AllocError> {
+fn each<V: Small>(to: &mut Recorder, sums: &[Sum]) {
     for (name, page, vector) in sums {
-        both::<V>(to, name, page)?;
-        alone::<V>(to, name, page, *vector)?;
+        both::<V>(to, name, page);
+        alone::<V>(to, name, page, *vector);
     }
-    Ok(())
 }
 
 // To vector 1 a sum in vector 0 is nothing.
-fn elsewhere<V: Value>(to: &mut Recorder, name: &str, page: &[u8]) -> Result<(), AllocError> {
-    both::<V>(to, name, page)?;
-    alone::<V>(to, name, page, 0)?;
-    alone::<V>(to, name, page, 1)
+fn elsewhere<V: Small>(to: &mut Recorder, name: &str, page: &[u8]) {
+    both::<V>(to, name, page);
+    alone::<V>(to, name, page, 0);
+    alone::<V>(to, name, page, 1);
 }
 
 // Into the front of an output of three marks. The whole output is shown, so that what was left as it came is seen.
-fn lent<V: Value>(
-    to: &mut Recorder,
-    name: &str,
-    page: &[u8],
-    mark: V,
-    room: usize,
-) -> Result<(), AllocError>
+fn lent<V: Small>(to: &mut Recorder, name: &str, page: &[u8], mark: V, room: usize)
     requires { room ≤ 3 }
 {
-    let mut out = vec![in to.alloc; mark; 3]?;
+    let mut out: [V; 3] = repeated(mark);
     let answer = read(page, &mut out[..room]);
     to.line(format_args!("{name} read"), answer, Values(&out));
-    let mut out = vec![in to.alloc; mark; 3]?;
+    let mut out: [V; 3] = repeated(mark);
     let answer = read_vector(page, 0, &mut out[..room]);
     to.line(format_args!("{name} vector 0:"), answer, Values(&out));
-    Ok(())
 }
 
-fn single(to: &mut Recorder) -> Result<(), AllocError> {
-    each::<u32>(to, &SINGLE)?;
+fn single(to: &mut Recorder) {
+    each::<u32>(to, &SINGLE);
     elsewhere::<u32>(
         to,
         "sum-in-0",
         b"\x01\x00\x00\x03\x09\x00\x00\x00\x08\x00\x00\x00\x12\x00\x00\x00\
         \x00\x00\x00\x00\xFF\xFF\xFF\x7F\x01\x10\
         \x00\x00\x00\x00\x00\x00\x00\x00\x00",
-    )?;
+    );
     // Before row 15, and with just enough room.
     let page = b"\x01\x00\x00\x0A\x02\x00\x00\x00\x04\x00\x00\x00\
         \x00\x00\x00\x00\xFF\xFF\xFF\x7F\x01\x02";
-    lent::<u32>(to, "sum-no-room", page, 0xEEEE_EEEE, 0)?;
-    lent::<u32>(to, "sum-just-room", page, 0xEEEE_EEEE, 2)
+    lent::<u32>(to, "sum-no-room", page, 0xEEEE_EEEE, 0);
+    lent::<u32>(to, "sum-just-room", page, 0xEEEE_EEEE, 2);
 }
 
-fn double(to: &mut Recorder) -> Result<(), AllocError> {
-    each::<u64>(to, &DOUBLE)?;
+fn double(to: &mut Recorder) {
+    each::<u64>(to, &DOUBLE);
     elsewhere::<u64>(
         to,
         "sum-in-0-64",
         b"\x01\x00\x00\x03\x09\x00\x00\x00\x08\x00\x00\x00\x16\x00\x00\x00\
         \x00\x00\x00\x00\xFF\xFF\xFF\xFF\xFF\xFF\xFF\x7F\x01\x10\
         \x00\x00\x00\x00\x00\x00\x00\x00\x00\x00\x00\x00\x00",
-    )?;
+    );
     let page = b"\x01\x00\x00\x0A\x02\x00\x00\x00\x04\x00\x00\x00\
         \x00\x00\x00\x00\xFF\xFF\xFF\xFF\xFF\xFF\xFF\x7F\x01\x02";
-    lent::<u64>(to, "sum-no-room-64", page, 0xEEEE_EEEE, 0)?;
-    lent::<u64>(to, "sum-just-room-64", page, 0xEEEE_EEEE, 2)
+    lent::<u64>(to, "sum-no-room-64", page, 0xEEEE_EEEE, 0);
+    lent::<u64>(to, "sum-just-room-64", page, 0xEEEE_EEEE, 2);
 }
 
-pub fn run(to: &mut Recorder) -> Result<(), AllocError> {
-    single(to)?;
-    double(to)
+pub fn run(to: &mut Recorder) {
+    single(to);
+    double(to);
 }

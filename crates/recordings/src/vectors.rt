@@ -1,9 +1,10 @@
 // One vector by its number: of a sound page of three vectors, and of that page with one byte changed or its end cut off. Each line shows the
 // answer and then the whole output, so that what was left as it came is seen too.
+ghost use Rattle.std.specs.Prelude.{◌≤◌, ◌<◌, ◌&&◌, nat_le, nat_lt, IsTrue};
+ghost use Rattle.std.specs.List.{list_all};
+
 use crate::pages::both;
-use crate::show::{Recorder, Values, untouched};
-use decimal::value::Value;
-use std::alloc::AllocError;
+use crate::show::{Recorder, Small, Values, repeated, untouched};
 use vector_reader::read_vector;
 
 // How the sound page is changed, and what is asked of it: a place and the byte that stands there, how many bytes of the page are lent, the
@@ -184,34 +185,34 @@ const CASES_64: [Case; 54] = [
 const ROOM: usize = 9;
 
 // One case: the answer, and the whole output behind it.
-fn asked<V: Value>(to: &mut Recorder, sound: &[u8], case: Case) -> Result<(), AllocError> {
+fn asked<V: Small, const N: usize>(to: &mut Recorder, sound: &[u8; N], case: Case)
+    requires { (case.0 < N) × (case.2 ≤ N) × (case.4 ≤ ROOM) }
+{
     let (at, byte, length, number, room) = case;
-    let mut page = sound.to_vec(to.alloc)?;
-    if let Some(place) = page.get_mut(at) {
-        *place = byte;
-    }
-    page.truncate(length);
-    let mut out = vec![in to.alloc; untouched::<V>(); ROOM]?;
-    let read = read_vector(&page, number, &mut out[..room.min(ROOM)]);
+    let mut page = *sound;
+    page[at] = byte;
+    let mut out: [V; ROOM] = repeated(untouched());
+    let read = read_vector(&page[..length], number, &mut out[..room]);
     let bits = 8 * V::BYTES;
     to.line(
         format_args!("{bits} byte {at} is {byte}, length {length}, vector {number}, room {room}:"),
         read,
         Values(&out),
     );
-    Ok(())
 }
 
-fn each<V: Value>(to: &mut Recorder, sound: &[u8], cases: &[Case]) -> Result<(), AllocError> {
+// Cases that lie inside the page and the output.
+fn each<V: Small, const N: usize>(to: &mut Recorder, sound: &[u8; N], cases: &[Case])
+    requires { IsTrue (list_all (λ c. nat_lt c.0 N && nat_le c.2 N && nat_le c.4 ROOM) cases.now) }
+{
     for case in cases {
-        asked::<V>(to, sound, *case)?;
+        asked::<V, N>(to, sound, *case);
     }
-    Ok(())
 }
 
-pub fn run(to: &mut Recorder) -> Result<(), AllocError> {
-    both::<u32>(to, "32 sound", &SOUND_32[..73])?;
-    each::<u32>(to, &SOUND_32, &CASES_32)?;
-    both::<u64>(to, "64 sound", &SOUND_64[..97])?;
-    each::<u64>(to, &SOUND_64, &CASES_64)
+pub fn run(to: &mut Recorder) {
+    both::<u32>(to, "32 sound", &SOUND_32[..73]);
+    each::<u32, 74>(to, &SOUND_32, &CASES_32);
+    both::<u64>(to, "64 sound", &SOUND_64[..97]);
+    each::<u64, 98>(to, &SOUND_64, &CASES_64);
 }
