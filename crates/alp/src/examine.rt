@@ -14,6 +14,15 @@ pub fn run(rt: &(impl Env + Files + Alloc), to: &mut Output) -> Result<(), Failu
         return Err(Failure::Usage("examine takes KIND and PAGE"));
     }
     let kind = kind(rt)?;
+    examine_file(rt, to, kind)
+}
+
+#[inline(never)] // so that no other job has this room on its stack
+fn examine_file(
+    rt: &(impl Env + Files + Alloc),
+    to: &mut Output,
+    kind: Kind,
+) -> Result<(), Failure> {
     let mut room = room::<PAGE_FILE>();
     let n = load(rt, to, WHO, 3, &mut room)?;
     examined(to, kind, &room[..n])

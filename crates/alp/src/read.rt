@@ -1,8 +1,8 @@
 // `alp read KIND PAGE COLUMN`, and with NUMBER behind it one vector of the page alone.
-ghost use Rattle.std.specs.Prelude.{◌≤◌, length};
+ghost use Rattle.std.specs.Prelude.{◌*◌, ◌≤◌, length};
 
 use crate::args::{kind, number, words};
-use crate::rooms::{COLUMN, PAGE_FILE, VALUES, room};
+use crate::rooms::{DOUBLE_COLUMN, PAGE_FILE, SINGLE_COLUMN, doubles, room, singles};
 use crate::say::{Failure, WHO, place};
 use columns::bytes;
 use decimal::value::Value;
@@ -27,9 +27,32 @@ pub fn run(rt: &(impl Env + Files + Alloc), to: &mut Output) -> Result<(), Failu
         None
     };
     match kind {
-        Kind::Single => read_file(rt, to, vector, &mut [0u32; VALUES]),
-        Kind::Double => read_file(rt, to, vector, &mut [0u64; VALUES]),
+        Kind::Single => read_singles(rt, to, vector),
+        Kind::Double => read_doubles(rt, to, vector),
     }
+}
+
+// By the rooms of each kind. They are not inlined, so that no other job has these rooms on its stack.
+#[inline(never)]
+fn read_singles(
+    rt: &(impl Env + Files + Alloc),
+    to: &mut Output,
+    vector: Option<usize>,
+) -> Result<(), Failure> {
+    let mut values = singles();
+    let mut column = room::<SINGLE_COLUMN>();
+    read_file(rt, to, vector, &mut values, &mut column)
+}
+
+#[inline(never)]
+fn read_doubles(
+    rt: &(impl Env + Files + Alloc),
+    to: &mut Output,
+    vector: Option<usize>,
+) -> Result<(), Failure> {
+    let mut values = doubles();
+    let mut column = room::<DOUBLE_COLUMN>();
+    read_file(rt, to, vector, &mut values, &mut column)
 }
 
 // The whole page, or the vector of this number alone.
@@ -38,15 +61,15 @@ fn read_file<V: Value>(
     to: &mut Output,
     vector: Option<usize>,
     values: &mut [V],
+    column: &mut [u8],
 ) -> Result<(), Failure>
-    requires { length values.old ≤ 16385 }
+    requires { (length values.old ≤ 16385) × (V.BYTES * 16385 ≤ length column.old) }
 {
     let mut file = room::<PAGE_FILE>();
-    let mut column = room::<COLUMN>();
     let page = load_page(rt, to, vector, &mut file)?;
     let answer = restored(page, vector, values);
     let n = place(answer)?.min(values.len());
-    save_values(rt, to, &values[..n], &mut column)?;
+    save_values(rt, to, &values[..n], column)?;
     done(to, answer, b"read ", b"value");
     Ok(())
 }
@@ -81,7 +104,7 @@ fn save_values<V: Value>(
     values: &[V],
     column: &mut [u8],
 ) -> Result<(), Failure>
-    requires { (length values.now ≤ 16385) × (131080 ≤ length column.old) }
+    requires { (length values.now ≤ 16385) × (V.BYTES * 16385 ≤ length column.old) }
 {
     let room = &mut column[..V::BYTES * values.len()];
     bytes(values, room);

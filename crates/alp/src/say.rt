@@ -1,9 +1,8 @@
 // What the tool says of itself: why it did nothing, and the help.
 use checks::check::{Refusal, answer_of};
 use files::Complained;
-use rules::Answer;
+use rules::{Answer, Kind};
 use sentences::{Output, refusal};
-use std::fmt::Display;
 
 // The tool's name, before a complaint.
 pub const WHO: &[u8] = b"alp";
@@ -12,7 +11,7 @@ pub const WHO: &[u8] = b"alp";
 #[derive(Clone, Copy)]
 pub enum Failure {
     Usage(&'static str), // what the words should have been
-    UnevenColumn(usize), // of values of so many bits
+    UnevenColumn(Kind),
     LongFile,
     Refused(Answer),
     Complained, // standard error has it already
@@ -41,24 +40,24 @@ pub fn place(answer: Answer) -> Result<usize, Failure> {
 pub fn tell(to: &mut Output, failure: Failure) {
     match failure {
         Failure::Usage(wanted) => {
-            complain(to, format_args!("{wanted}; alp help says more"));
+            to.complain(WHO);
+            to.complain(b": ");
+            to.complain(wanted.as_bytes());
+            to.complain(b"; alp help says more\n");
         }
-        Failure::UnevenColumn(bits) => complain(
-            to,
-            format_args!("the column's length is no whole number of {bits}-bit values"),
-        ),
-        Failure::LongFile => complain(
-            to,
-            "the file is longer than any page, so no vector of it is read",
-        ),
+        // a whole line in one write, so that no other program's comes between
+        Failure::UnevenColumn(Kind::Single) => {
+            to.complain(b"alp: the column's length is no whole number of 32-bit values\n");
+        }
+        Failure::UnevenColumn(Kind::Double) => {
+            to.complain(b"alp: the column's length is no whole number of 64-bit values\n");
+        }
+        Failure::LongFile => {
+            to.complain(b"alp: the file is longer than any page, so no vector of it is read\n");
+        }
         Failure::Refused(answer) => refusal(to, answer),
         Failure::Complained => {}
     }
-}
-
-fn complain<D: Display + Drop>(to: &mut Output, why: D) {
-    to.complain(WHO);
-    to.complain_of(format_args!(": {why}\n"));
 }
 
 pub const HELP: &str = "alp: pages of ALP-encoded float columns that give back every bit or say no

@@ -25,6 +25,11 @@ pub fn run(rt: &(impl Env + Files + Alloc), to: &mut Output) -> Result<(), Failu
         return Err(Failure::Usage("show takes KIND and PAGE"));
     }
     let kind = kind(rt)?;
+    show_file(rt, to, kind)
+}
+
+#[inline(never)] // so that no other job has this room on its stack
+fn show_file(rt: &(impl Env + Files + Alloc), to: &mut Output, kind: Kind) -> Result<(), Failure> {
     let mut room = room::<PAGE_FILE>();
     let n = load(rt, to, WHO, 3, &mut room)?;
     match kind {

@@ -1,9 +1,11 @@
 // `alp write KIND S E F COLUMN PAGE`, and with `auto` in place of E and F the page with the pairs that the library chooses.
-ghost use Rattle.std.specs.Prelude.{◌≤◌, IfOk, length};
+ghost use Rattle.std.specs.Prelude.{◌*◌, ◌≤◌, IfOk, length};
 
 use crate::args::{byte, kind, says_auto, words};
 use crate::choose::{choose_pairs, show_chosen};
-use crate::rooms::{COLUMN, PAGE, PAIRS, VALUES, room};
+use crate::rooms::{
+    DOUBLE_COLUMN, DOUBLE_PAGE, PAIRS, SINGLE_COLUMN, SINGLE_PAGE, VALUES, doubles, room, singles,
+};
 use crate::say::{Failure, WHO, place};
 use checks::sizes::{MAX_S, MAX_VALUES, size_of, vectors_of};
 use decimal::value::Value;
@@ -35,8 +37,8 @@ pub fn run(rt: &(impl Env + Files + Alloc), to: &mut Output) -> Result<(), Failu
     let kind = kind(rt)?;
     let settings = settings_in(rt, chosen)?;
     match kind {
-        Kind::Single => write_column(rt, to, settings, &mut [0u32; VALUES]),
-        Kind::Double => write_column(rt, to, settings, &mut [0u64; VALUES]),
+        Kind::Single => write_singles(rt, to, settings),
+        Kind::Double => write_doubles(rt, to, settings),
     }
 }
 
@@ -66,20 +68,45 @@ fn settings_in(rt: &impl Env, chosen: bool) -> Result<Settings, Failure> {
     })
 }
 
+// By the rooms of each kind. They are not inlined, so that no other job has these rooms on its stack.
+#[inline(never)]
+fn write_singles(
+    rt: &(impl Env + Files + Alloc),
+    to: &mut Output,
+    settings: Settings,
+) -> Result<(), Failure> {
+    let mut values = singles();
+    let mut column = room::<SINGLE_COLUMN>();
+    let mut page = room::<SINGLE_PAGE>();
+    write_column(rt, to, settings, &mut column, &mut values, &mut page)
+}
+
+#[inline(never)]
+fn write_doubles(
+    rt: &(impl Env + Files + Alloc),
+    to: &mut Output,
+    settings: Settings,
+) -> Result<(), Failure> {
+    let mut values = doubles();
+    let mut column = room::<DOUBLE_COLUMN>();
+    let mut page = room::<DOUBLE_PAGE>();
+    write_column(rt, to, settings, &mut column, &mut values, &mut page)
+}
+
 // From the column file to the page file.
 fn write_column<V: Value>(
     rt: &(impl Env + Files + Alloc),
     to: &mut Output,
     settings: Settings,
+    column: &mut [u8],
     values: &mut [V],
+    page: &mut [u8],
 ) -> Result<(), Failure>
-    requires { 16385 ≤ length values.old }
+    requires { (V.BYTES * 16385 ≤ length column.old) × (16385 ≤ length values.old) }
 {
-    let mut column = room::<COLUMN>();
-    let n = load_values(rt, to, settings.column, &mut column, values)?;
+    let n = load_values(rt, to, settings.column, column, values)?;
     let mut pairs = room::<PAIRS>();
-    let mut page = room::<PAGE>();
-    write_values(rt, to, settings, &values[..n], &mut pairs, &mut page)
+    write_values(rt, to, settings, &values[..n], &mut pairs, page)
 }
 
 // How many values came.
@@ -90,13 +117,13 @@ fn load_values<V: Value>(
     column: &mut [u8],
     values: &mut [V],
 ) -> Result<usize, Failure>
-    requires { (131080 ≤ length column.old) × (16385 ≤ length values.old) }
+    requires { (V.BYTES * 16385 ≤ length column.old) × (16385 ≤ length values.old) }
     ensures { IfOk result (λ n. n ≤ length values.new) }
 {
     let bytes = V::BYTES;
     let n = load(rt, to, WHO, word, &mut column[..bytes * VALUES])?;
     if n % bytes != 0 {
-        return Err(Failure::UnevenColumn(8 * bytes));
+        return Err(Failure::UnevenColumn(V::KIND));
     }
     let many = n / bytes;
     columns::words(&column[..n], &mut values[..many]);

@@ -27,13 +27,14 @@ fn complain<A: Allocator>(
     why: io::Error,
 ) -> Complained {
     to.complain(who);
+    to.complain(what.as_bytes());
+    to.complain(path.as_bytes());
+    to.complain(b": ");
     match format!(in alloc; "{why}") {
-        Ok(all) => {
-            let words = words(all.as_str());
-            to.complain_of(format_args!(": {what}{path}: {words}\n"));
-        }
-        Err(_) => to.complain_of(format_args!(": {what}{path}: {why}\n")),
+        Ok(all) => to.complain(words(all.as_str()).as_bytes()),
+        Err(_) => to.complain_of(why),
     }
+    to.complain(b"\n");
     Complained
 }
 
@@ -104,12 +105,19 @@ pub fn load<R: Env + Files + Alloc>(
     ensures { IfOk result (λ count. count ≤ length room.new) }
 {
     let mut bytes = name_room();
-    let path = name(rt, i, &mut bytes).map_err(|why| complain(rt.alloc(), to, who, NAME, "", why))?;
+    let path = name(rt, i, &mut bytes).map_err(|why| complain(
+        rt.alloc(),
+        to,
+        who,
+        ": ",
+        NAME,
+        why,
+    ))?;
     read_path(rt, path, room).map_err(|why| complain(
         rt.alloc(),
         to,
         who,
-        "cannot read ",
+        ": cannot read ",
         path,
         why,
     ))
@@ -141,17 +149,24 @@ pub fn save<R: Env + Files + Alloc>(
     bytes: &[u8],
 ) -> Result<(), Complained> {
     let mut room = name_room();
-    let path = name(rt, i, &mut room).map_err(|why| complain(rt.alloc(), to, who, NAME, "", why))?;
+    let path = name(rt, i, &mut room).map_err(|why| complain(
+        rt.alloc(),
+        to,
+        who,
+        ": ",
+        NAME,
+        why,
+    ))?;
     let mut file = make(rt, path).map_err(|why| complain(
         rt.alloc(),
         to,
         who,
-        "cannot make ",
+        ": cannot make ",
         path,
         why,
     ))?;
     put(&mut file, bytes).map_err(|why| {
-        let complained = complain(rt.alloc(), to, who, "cannot write ", path, why);
+        let complained = complain(rt.alloc(), to, who, ": cannot write ", path, why);
         fs::remove_file(rt, path).ok(); // where that fails too, the complaint is still the one to make
         complained
     })
