@@ -3,7 +3,7 @@ use mathlib.Core.Path.{◌≡◌, refl, sym, ap, ◌∙◌}
 use mathlib.Core.Bool.{Bool, true, false, not, cond}
 use mathlib.Core.List.{[], ◌∷◌}
 use mathlib.Core.Option.{Option, none, some}
-use Prim.Native.Nat.{ℕ, ◌+◌, ◌≤◌, ◌<◌}
+use Prim.Native.Nat.{ℕ, ◌+◌, ◌≤◌}
 use native.Mathlib.Nat.{le_refl}
 use native.Mathlib.Omega.{arith}
 use lib.Dec.{leb, ltb}
@@ -58,12 +58,6 @@ see-counts s (some z) = (refl, omega arith)
 
 -- ---- before a piece
 
-begun-some : (s : Seen) (z : ℤ) → s.listed < s.count → s ≡ begun s z
-begun-some s z h = ap (λ (b : Bool). cond b s (record { count = s.count; listed = s.listed; stand = z; smallest = z; largest = z })) (sym (lt-ltb s.listed s.count h))
-
-begun-is : (s : Seen) (z : ℤ) → s.count ≤ s.listed → record { count = s.count; listed = s.listed; stand = z; smallest = z; largest = z } ≡ begun s z
-begun-is s z h = ap (λ (b : Bool). cond b s (record { count = s.count; listed = s.listed; stand = z; smallest = z; largest = z })) (sym (le-ltb s.listed s.count h))
-
 pub begun-counts : (s : Seen) (z : ℤ) → ((begun s z).count ≡ s.count) × ((begun s z).listed ≡ s.listed)
 begun-counts s z = go (ltb s.listed s.count)
   where
@@ -76,18 +70,11 @@ begun-counts s z = go (ltb s.listed s.count)
 
 -- ---- one value, as a piece of its own
 
-pub see-one : (s : Seen) (t : Option ℤ) → s.listed < s.count → see s t ≡ see_more s (t ∷ [])
-unfolding see_all
-see-one s t h = ap (λ (x : Seen). see x t) (begun-some s (the_stand_in (t ∷ [])) h)
-
--- the value's whole number, or else 0, is the stand-in then
-pub see-first : (s : Seen) (t : std.Option ℤ) (z : ℤ) → s.count ≤ s.listed → z ≡ unwrap_or t (pos 0)
-    → see (record { count = s.count; listed = s.listed; stand = z; smallest = z; largest = z }) (as_try t) ≡ see_more s (as_try t ∷ [])
+-- its whole number, or else 0, is the stand-in where there was none before
+pub see-one : (s b : Seen) (t : Option ℤ) (z : ℤ) → z ≡ or_else (pos 0) t → b ≡ begun s z → see b t ≡ see_more s (t ∷ [])
 unfolding see_all the_stand_in
-see-first s None z h e =
-    ap (λ (x : ℤ). see (record { count = s.count; listed = s.listed; stand = x; smallest = x; largest = x }) none) e ∙ ap (λ (x : Seen). see x none) (begun-is s (pos 0) h)
-see-first s (Some y) z h e =
-    ap (λ (x : ℤ). see (record { count = s.count; listed = s.listed; stand = x; smallest = x; largest = x }) (some y)) e ∙ ap (λ (x : Seen). see x (some y)) (begun-is s y h)
+see-one s b none z ez eb = ap (λ (x : Seen). see x none) (eb ∙ ap (begun s) ez)
+see-one s b (some y) z ez eb = ap (λ (x : Seen). see x (some y)) (eb ∙ ap (begun s) ez)
 
 -- a value's whole number, or the stand-in
 pub or_stand-in : (t : std.Option ℤ) (s : ℤ) → unwrap_or t s ≡ or_else s (as_try t)

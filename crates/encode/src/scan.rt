@@ -72,9 +72,18 @@ impl Seen {
         ensures { as_seen result ≡ begun (as_seen self) (the_stand_in (tries (format_of V.KIND) (as_pair scale.now.pair) (V.as_numbers values.now))) }
     {
         if self.listed < self.count {
+            return self; // and none is looked for
+        }
+        self.begun_with(stand_in(values, scale))
+    }
+
+    // The same, with the next values' stand-in at hand.
+    fn begun_with(self, first: i64) -> Seen
+        ensures { as_seen result ≡ begun (as_seen self) first }
+    {
+        if self.listed < self.count {
             return self;
         }
-        let first = stand_in(values, scale);
         Seen {
             stand_in: first,
             smallest: first,
@@ -109,17 +118,11 @@ impl Seen {
         requires { (self.listed ≤ self.count) × Short self.count }
         ensures { as_seen result ≡ see_more (as_seen self) (as_try turned ∷ []) }
     {
-        if self.listed < self.count {
-            return self.with(turned);
+        // by the value first, and then by the record: the other way about, choosing takes a quarter more instructions for an exception
+        match turned {
+            None => self.begun_with(0).with(None),
+            Some(z) => self.begun_with(z).with(Some(z)),
         }
-        let first = turned.unwrap_or(0);
-        Seen {
-            stand_in: first,
-            smallest: first,
-            largest: first,
-            ..self
-        }
-        .with(turned)
     }
 
     // ---- the size of the vector
