@@ -177,8 +177,8 @@ strahnuk_answer alp_examine64(const uint8_t *page, size_t page_length);
  * Choose: the pair that gives one vector of these values the fewest bytes; of several, the first, exponent rising, then factor rising. Done's
  * place: the count of values. Nothing is written. The two bytes go into `pairs` as they are: who chooses for each 2^s values of a column
  * writes its shortest page of that s.
- * Every pair is tried, 66 (32-bit) or 190 (64-bit), and left once it can't be better. Of 64-bit values a full vector takes some 370 instructions
- * a value where all are the same, 2,600 where they are prices, 6,300 where they are random bits; to write prices takes some 150.
+ * Every pair is tried, 66 (32-bit) or 190 (64-bit), and left once it can't be better. Of 64-bit values a full vector takes some 350 instructions
+ * a value where all are the same, 2,600 where they are prices, 6,100 where they are random bits; to write prices takes some 150.
  * Row: 31 if there are no values, or more than 1 << STRAHNUK_LARGEST_S.
  */
 strahnuk_choice alp_choose32(const uint32_t *values, size_t values_length);
