@@ -90,7 +90,7 @@ impl Word for u32 {
     }
 
     fn number(self) -> u64 {
-        self as u64
+        self as u64 // with zeros above it
     }
 
     fn width(self) -> u8 {
