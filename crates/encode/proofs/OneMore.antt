@@ -70,11 +70,15 @@ begun-counts s z = go (ltb s.listed s.count)
 
 -- ---- one value, as a piece of its own
 
+stand-in_alone : (t : Option ℤ) → or_else (pos 0) t ≡ the_stand_in (t ∷ [])
+unfolding the_stand_in
+stand-in_alone none = refl
+stand-in_alone (some z) = refl
+
 -- its whole number, or else 0, is the stand-in where there was none before
 pub see-one : (s b : Seen) (t : Option ℤ) (z : ℤ) → z ≡ or_else (pos 0) t → b ≡ begun s z → see b t ≡ see_more s (t ∷ [])
-unfolding see_all the_stand_in
-see-one s b none z ez eb = ap (λ (x : Seen). see x none) (eb ∙ ap (begun s) ez)
-see-one s b (some y) z ez eb = ap (λ (x : Seen). see x (some y)) (eb ∙ ap (begun s) ez)
+unfolding see_all
+see-one s b t z ez eb = ap (λ (x : Seen). see x t) (eb ∙ ap (begun s) (ez ∙ stand-in_alone t))
 
 -- a value's whole number, or the stand-in
 pub or_stand-in : (t : std.Option ℤ) (s : ℤ) → unwrap_or t s ≡ or_else s (as_try t)
