@@ -3,7 +3,7 @@ use mathlib.Core.Path.{◌≡◌, refl, sym, ap, ◌∙◌}
 use mathlib.Core.Bool.{Bool, true, false, not, cond}
 use mathlib.Core.List.{[], ◌∷◌}
 use mathlib.Core.Option.{Option, none, some}
-use Prim.Native.Nat.{ℕ, ◌+◌, ◌≤◌}
+use Prim.Native.Nat.{ℕ, ◌+◌, ◌≤◌, ◌<◌}
 use native.Mathlib.Nat.{le_refl}
 use native.Mathlib.Omega.{arith}
 use lib.Dec.{leb, ltb}
@@ -56,7 +56,13 @@ pub see-counts : (s : Seen) (t : Option ℤ) → ((see s t).count ≡ s.count + 
 see-counts s none = (refl, le_refl (s.listed + 1))
 see-counts s (some z) = (refl, omega arith)
 
--- ---- before a piece
+-- ---- before a piece: one whole number is there already, or none is
+
+pub begun-some : (s : Seen) (z : ℤ) → s.listed < s.count → s ≡ begun s z
+begun-some s z h = ap (λ (b : Bool). cond b s (record { count = s.count; listed = s.listed; stand = z; smallest = z; largest = z })) (sym (lt-ltb s.listed s.count h))
+
+begun-is : (s : Seen) (z : ℤ) → s.count ≤ s.listed → record { count = s.count; listed = s.listed; stand = z; smallest = z; largest = z } ≡ begun s z
+begun-is s z h = ap (λ (b : Bool). cond b s (record { count = s.count; listed = s.listed; stand = z; smallest = z; largest = z })) (sym (le-ltb s.listed s.count h))
 
 pub begun-counts : (s : Seen) (z : ℤ) → ((begun s z).count ≡ s.count) × ((begun s z).listed ≡ s.listed)
 begun-counts s z = go (ltb s.listed s.count)
@@ -76,11 +82,19 @@ stand-in_alone none = refl
 stand-in_alone (some z) = refl
 
 -- its whole number, or else 0, is the stand-in where there was none before
-pub see-one : (s b : Seen) (t : Option ℤ) (z : ℤ) → z ≡ or_else (pos 0) t → b ≡ begun s z → see b t ≡ see_more s (t ∷ [])
+pub see-begun : (s b : Seen) (t : Option ℤ) (z : ℤ) → z ≡ or_else (pos 0) t → b ≡ begun s z → see b t ≡ see_more s (t ∷ [])
 unfolding see_all
-see-one s b t z ez eb = ap (λ (x : Seen). see x t) (eb ∙ ap (begun s) (ez ∙ stand-in_alone t))
+see-begun s b t z ez eb = ap (λ (x : Seen). see x t) (eb ∙ ap (begun s) (ez ∙ stand-in_alone t))
 
 -- a value's whole number, or the stand-in
 pub or_stand-in : (t : std.Option ℤ) (s : ℤ) → unwrap_or t s ≡ or_else s (as_try t)
 or_stand-in None s = refl
 or_stand-in (Some z) s = refl
+
+-- with a whole number there already, and as the first one
+pub see-one : (s : Seen) (t : Option ℤ) → s.listed < s.count → see s t ≡ see_more s (t ∷ [])
+see-one s t h = see-begun s s t (or_else (pos 0) t) refl (begun-some s (or_else (pos 0) t) h)
+
+pub see-first : (s : Seen) (t : std.Option ℤ) (z : ℤ) → s.count ≤ s.listed → z ≡ unwrap_or t (pos 0)
+    → see (record { count = s.count; listed = s.listed; stand = z; smallest = z; largest = z }) (as_try t) ≡ see_more s (as_try t ∷ [])
+see-first s t z h e = see-begun s _ (as_try t) z (e ∙ or_stand-in t (pos 0)) (begun-is s z h)
