@@ -25,11 +25,11 @@ use Rattle.inspect.proofs.Steps.{Walk, walk_start, walk_step, some_whole}
 -- ---- an index that may be there
 
 -- whether it is, and what is then stored
-there_if : (b : Bool) (j : ℕ) → is_some (then_some b j) ≡ b
+pub there_if : (b : Bool) (j : ℕ) → is_some (then_some b j) ≡ b
 there_if true j = refl
 there_if false j = refl
 
-stored_if : (xs : List ℕ) (b : Bool) (j : ℕ) → mark_of b (get_or xs j 0) ≡ mark_at xs (then_some b j)
+pub stored_if : (xs : List ℕ) (b : Bool) (j : ℕ) → mark_of b (get_or xs j 0) ≡ mark_at xs (then_some b j)
 stored_if xs true j = refl
 stored_if xs false j = refl
 

@@ -204,6 +204,10 @@ module _ (fmt : Format) (n : ℕ) (m : Meta) (packed : List ℕ) (laid : FieldsL
   unfolding fields
   field-is = sym (field_at m.width n packed i (m.width * i) more refl)
 
+  -- it has room in a word of so many bytes
+  pub field_fits : (d b : ℕ) → d ≡ get_or (fields r) i 0 → b ≡ word_bytes fmt → d < 2 ^ (8 * b)
+  field_fits d b is e = window_fits (number packed) (m.width * i) b m.width (subst (λ (n : ℕ). m.width ≤ n) (sym (bits_of_bytes fmt b e)) laid.narrow) (is ∙ sym field-is)
+
   pub whole-is : (x : ℕ) → x ≡ (m.frame + get_or (fields r) i 0) % 2 ^ word_bits fmt → to_z (word fmt) x ≡ get_or (wholes fmt r) i (pos 0)
   unfolding wholes fields
   whole-is x is =
