@@ -195,6 +195,10 @@ window_narrow fmt b e width h = omega (arith, bits_of_bytes fmt b e, small_word 
 pub window_fits : (n start b width : ℕ) → width ≤ 8 * b → {d : ℕ} → d ≡ n / 2 ^ start % 2 ^ width → d < 2 ^ (8 * b)
 window_fits n start b width h {d} e = subst (λ (d : ℕ). d < 2 ^ (8 * b)) (sym e) (lt_of_lt_of_le (mod-lt (n / 2 ^ start) (pow_pos width)) (pow_mono h))
 
+-- so a word of the kind has room for a field of a vector whose layout was checked
+word_has_room : (fmt : Format) (n : ℕ) (m : Meta) (packed : List ℕ) → FieldsLaid fmt n m packed → (b : ℕ) → b ≡ word_bytes fmt → m.width ≤ 8 * b
+word_has_room fmt n m packed laid b e = subst (λ (n : ℕ). m.width ≤ n) (sym (bits_of_bytes fmt b e)) laid.narrow
+
 -- that the code makes of the frame and the field in the window at its bits
 module _ (fmt : Format) (n : ℕ) (m : Meta) (packed : List ℕ) (laid : FieldsLaid fmt n m packed) (lists : List ℕ) (i : ℕ) (more : i < n) where
   abbrev r : Raw
@@ -206,7 +210,7 @@ module _ (fmt : Format) (n : ℕ) (m : Meta) (packed : List ℕ) (laid : FieldsL
 
   -- it has room in a word of so many bytes
   pub field_fits : (d b : ℕ) → d ≡ get_or (fields r) i 0 → b ≡ word_bytes fmt → d < 2 ^ (8 * b)
-  field_fits d b is e = window_fits (number packed) (m.width * i) b m.width (subst (λ (n : ℕ). m.width ≤ n) (sym (bits_of_bytes fmt b e)) laid.narrow) (is ∙ sym field-is)
+  field_fits d b is e = window_fits (number packed) (m.width * i) b m.width (word_has_room fmt n m packed laid b e) (is ∙ sym field-is)
 
   pub whole-is : (x : ℕ) → x ≡ (m.frame + get_or (fields r) i 0) % 2 ^ word_bits fmt → to_z (word fmt) x ≡ get_or (wholes fmt r) i (pos 0)
   unfolding wholes fields
@@ -224,4 +228,4 @@ largest_fits fmt n m packed laid lists d b is e =
     let w = m.width in
     let each = below_each (2 ^ w) (unpack w n packed) (to_below (2 ^ w) n (number packed) (pow_pos w)) in
     let most : greatest (unpack w n packed) < 2 ^ w = greatest-lt (2 ^ w) (unpack w n packed) (pow_pos w) each in
-    subst (λ (d : ℕ). d < 2 ^ (8 * b)) (sym is) (lt_of_lt_of_le most (pow_mono (subst (λ (n : ℕ). w ≤ n) (sym (bits_of_bytes fmt b e)) laid.narrow)))
+    subst (λ (d : ℕ). d < 2 ^ (8 * b)) (sym is) (lt_of_lt_of_le most (pow_mono (word_has_room fmt n m packed laid b e)))
